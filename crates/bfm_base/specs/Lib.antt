@@ -1,0 +1,4 @@
+pub mod Cause
+pub mod Direction
+pub mod Faults
+pub mod Memory
