@@ -1,0 +1,2 @@
+pub mod CutterLemmas
+pub mod LinesLemmas
