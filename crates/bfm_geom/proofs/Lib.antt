@@ -1,0 +1,5 @@
+pub mod DifferenceLemmas
+pub mod IntegerLemmas
+pub mod MeetingLemmas
+pub mod StretchLemmas
+pub mod UprightLemmas

@@ -1,0 +1,4 @@
+pub mod Difference
+pub mod Meeting
+pub mod Stretch
+pub mod Upright

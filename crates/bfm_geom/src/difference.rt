@@ -1,0 +1,71 @@
+ghost use Rattle.std.specs.Prelude.{◌≡◌, ◌^◌, ◌≤◌, true, nat_abs, nat_le};
+ghost use Rattle.bfm_geom.specs.Difference.{IsBox, IsSide, IsWithin, IsWrapped, wrapped, wrapped_along, overlaps};
+
+use bfm_base::{P3, Shape};
+
+/// The wrapped form of the difference of two places, in lattice units: on a periodic axis the
+/// number that differs from the component by whole sides and lies above minus half the side and at
+/// or below half the side, on a walled axis the component itself.
+pub fn wrap(shape: &Shape, p: P3) -> P3
+    requires shape { IsBox shape.now }
+    requires reach { IsWithin (2 ^ 46) p }
+    ensures value { result ≡ wrapped shape.now p }
+    ensures nearest { IsWrapped shape.now p result }
+{
+    P3 {
+        x: wrap_along(shape.periodic[0], shape.sides[0], p.x),
+        y: wrap_along(shape.periodic[1], shape.sides[1], p.y),
+        z: wrap_along(shape.periodic[2], shape.sides[2], p.z),
+    }
+}
+
+// The wrapped form along one axis.
+fn wrap_along(periodic: bool, side: u16, d: i64) -> i64
+    requires side { IsSide side }
+    requires reach { nat_abs d ≤ 2 ^ 46 }
+    ensures { result ≡ wrapped_along periodic side d }
+{
+    if periodic { fold_around(side, d) } else { d }
+}
+
+// The wrapped form along a periodic axis. Most differences are at most half the side, and need no
+// division.
+fn fold_around(side: u16, d: i64) -> i64
+    requires side { IsSide side }
+    requires reach { nat_abs d ≤ 2 ^ 46 }
+    ensures { result ≡ wrapped_along true side d }
+{
+    let side = i64::from(side);
+    if -side < 2 * d && 2 * d <= side {
+        return d;
+    }
+    let folded = d.rem_euclid(side);
+    if 2 * folded <= side {
+        folded
+    } else {
+        folded - side
+    }
+}
+
+/// Whether two monomers share a site of the lattice (Carmesin and Kremer 1988): each component of
+/// their wrapped difference is at most 1 in absolute value.
+pub fn overlap(shape: &Shape, a: P3, b: P3) -> bool
+    requires shape { IsBox shape.now }
+    requires first { IsWithin (2 ^ 45) a }
+    requires second { IsWithin (2 ^ 45) b }
+    ensures { result ≡ overlaps shape.now a b }
+{
+    is_near_along(shape.periodic[0], shape.sides[0], b.x - a.x)
+        && is_near_along(shape.periodic[1], shape.sides[1], b.y - a.y)
+        && is_near_along(shape.periodic[2], shape.sides[2], b.z - a.z)
+}
+
+// Whether the wrapped form along one axis is at most 1 in absolute value.
+fn is_near_along(periodic: bool, side: u16, d: i64) -> bool
+    requires side { IsSide side }
+    requires reach { nat_abs d ≤ 2 ^ 46 }
+    ensures { result ≡ nat_le (nat_abs (wrapped_along periodic side d)) 1 }
+{
+    let w = wrap_along(periodic, side, d);
+    -1 <= w && w <= 1
+}
