@@ -1,0 +1,4 @@
+pub mod KindLemmas
+pub mod ListLemmas
+pub mod PairLemmas
+pub mod UsualLemmas

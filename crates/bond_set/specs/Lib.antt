@@ -1,0 +1,3 @@
+pub mod BondSet
+pub mod SetFault
+pub mod UsualSet
