@@ -1,0 +1,24 @@
+ghost use Rattle.std.specs.Prelude.{◌≡◌, ◌<◌, length, if◌then◌else◌};
+ghost use Rattle.bfm_world.specs.Configuration.{Configuration, is_legal, moved, reach_of, greatest_reach};
+
+use crate::world::World;
+use bfm_base::Dir;
+
+/// What makes attempts at local moves in a world, by whatever data of its own.
+pub trait Engine {
+    ghost configuration: { Self → Configuration };
+
+    /// The world as it is now.
+    fn world(&self) -> &World
+        ensures { result.now ≡ configuration self.now };
+
+    /// Attempts to move a monomer, counted from 0, by one lattice unit, and answers whether the
+    /// move was made. It is made exactly where it is legal: without contacts each word is below
+    /// the threshold.
+    fn attempt(&mut self, monomer: u32, dir: Dir, word: u32) -> bool
+        requires monomer { monomer < length (configuration self.old).positions }
+        requires reach { reach_of (configuration self.old).positions < greatest_reach }
+        ensures made { result ≡ is_legal (configuration self.old) monomer dir }
+        ensures world { configuration self.new
+            ≡ (if is_legal (configuration self.old) monomer dir then moved (configuration self.old) monomer dir else configuration self.old) };
+}
