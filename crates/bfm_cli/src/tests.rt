@@ -1,0 +1,255 @@
+ghost use Rattle.std.specs.Prelude.{◌<◌};
+
+use crate::status::Status;
+use crate::tool::run_tool;
+use bfm_base::{MemSink, MemSource, Source};
+use std::alloc::{AllocError, Global};
+use std::test::Fail;
+
+/// The text of a file in a box of sides 8 that is periodic along x and z.
+fn file_of(
+    alloc: Global,
+    monomers: &str,
+    periodic_y: &str,
+    mcs: &str,
+    positions: &str,
+) -> Result<String, AllocError> {
+    format!(in alloc;
+        "!number_of_monomers={monomers}\n!box_x=8\n!box_y=8\n!box_z=8\n!periodic_x=1\n!periodic_y={periodic_y}\n!periodic_z=1\n!mcs={mcs}\n{positions}"
+    )
+}
+
+/// The file of one monomer at (3, 3, 3), of 104 bytes.
+const ONE: &str =
+    "!number_of_monomers=1\n!box_x=8\n!box_y=8\n!box_z=8\n!periodic_x=1\n!periodic_y=1\n!periodic_z=1\n!mcs=0\n3 3 3\n";
+
+/// What the first job adds to that file, and what it reports.
+const ADDED: &str = "\n!mcs=1\n3 4 3\n";
+
+const REPORT: &str = "kept 104\nframes 1\nmcs 1\nskipped 0\naccepted 1\nlinks 0\n";
+
+/// The words of the first job.
+const WORDS: &str = "run seed=42 frames=1 every=1";
+
+/// Runs the tool over memory, and answers its status.
+fn run_over(
+    alloc: Global,
+    words: &str,
+    input: &mut MemSource,
+    output: &mut MemSink,
+    report: &mut MemSink,
+) -> Result<Status, AllocError> {
+    let mut list = Vec::new(alloc);
+    for word in words.split_whitespace() {
+        list.push(String::from_str(alloc, word)?)?;
+    }
+    Ok(run_tool(alloc, &list, input, output, report))
+}
+
+/// What the tool answers where nothing fails.
+#[derive(Drop)]
+struct Answer {
+    status: Status,
+    output: MemSink,
+    report: MemSink,
+}
+
+/// Runs the tool over an input that gives `step` bytes a call.
+fn answer_to(alloc: Global, words: &str, input: &[u8], step: usize) -> Result<Answer, AllocError>
+    requires { 0 < step }
+{
+    let mut input = MemSource::new(alloc, input, step, &[])?;
+    let mut output = MemSink::new(alloc, 1000, step, &[])?;
+    let mut report = MemSink::new(alloc, 1000, step, &[])?;
+    let status = run_over(alloc, words, &mut input, &mut output, &mut report)?;
+    Ok(Answer {
+        status,
+        output,
+        report,
+    })
+}
+
+const TWO_TIMES: &str = "\n!mcs=1\n3 4 3\n\n!mcs=2\n3 4 4\n";
+
+// (words, bytes a call, what is added, the last lines of the report)
+#[rattlefmt::skip]
+const JOBS: [(&str, usize, &str, &str); 6] = [
+    (WORDS, 1000, ADDED, "frames 1\nmcs 1\nskipped 0\naccepted 1\n"),
+    (WORDS, 1, ADDED, "frames 1\nmcs 1\nskipped 0\naccepted 1\n"),
+    ("run every=1 frames=1 seed=42", 1000, ADDED, "frames 1\nmcs 1\nskipped 0\naccepted 1\n"),
+    ("run seed=42 frames=2 every=1", 1000, TWO_TIMES, "frames 2\nmcs 2\nskipped 0\naccepted 2\n"),
+    ("run seed=42 frames=1 every=2", 7, "\n!mcs=2\n3 4 4\n", "frames 1\nmcs 2\nskipped 0\naccepted 2\n"),
+    ("run seed=42 frames=0 every=1", 1000, "", "frames 0\nmcs 0\nskipped 0\naccepted 0\n"),
+];
+
+#[test]
+fn the_first_job_and_its_words(rt: HostRuntime) -> Result<(), Fail> {
+    for (words, step, added, report) in JOBS {
+        assert!(rt; step > 0);
+        let ended = answer_to(rt.alloc(), words, ONE.as_bytes(), step)?;
+        let output = format!(in rt.alloc(); "{ONE}{added}")?;
+        let report = format!(in rt.alloc(); "kept 104\n{report}links 0\n")?;
+        assert_eq!(rt; ended.status, Status::Done, "{words}");
+        assert!(rt; ended.output.bytes() == output.as_bytes(), "{words}");
+        assert!(rt; ended.report.bytes() == report.as_bytes(), "{words}");
+    }
+    Ok(())
+}
+
+#[test]
+fn walls_boundaries_and_neighbours(rt: HostRuntime) -> Result<(), Fail> {
+    // (monomers, whether y is periodic, positions, the positions after one sweep, moves made)
+    let table = [
+        ("2", "1", "0 0 0\n0 6 0\n", "0 0 0\n0 6 1\n", 1),
+        ("1", "0", "3 6 3\n", "3 6 3\n", 0),
+        ("1", "1", "3 7 3\n", "3 8 3\n", 1),
+        ("1", "1", "3 7 3\r\n", "3 8 3\n", 1),
+    ];
+    for (monomers, periodic, positions, after, accepted) in table {
+        let file = file_of(rt.alloc(), monomers, periodic, "0", positions)?;
+        let ended = answer_to(rt.alloc(), WORDS, file.as_bytes(), 1000)?;
+        let output = format!(in rt.alloc(); "{file}\n!mcs=1\n{after}")?;
+        let report = format!(in rt.alloc();
+            "kept {}\nframes 1\nmcs 1\nskipped 0\naccepted {accepted}\nlinks 0\n",
+            file.len()
+        )?;
+        assert_eq!(rt; ended.status, Status::Done, "{positions}");
+        assert!(rt; ended.output.bytes() == output.as_bytes(), "{positions}");
+        assert!(rt; ended.report.bytes() == report.as_bytes(), "{positions}");
+    }
+    Ok(())
+}
+
+// (monomers, whether y is periodic, time, positions, status, report)
+#[rattlefmt::skip]
+const REFUSALS: [(&str, &str, &str, &str, Status, &str); 10] = [
+    ("1", "0", "0", "3 7 3\n", Status::BadFile, "line 9 cause 12 Outside\n"),
+    ("2", "1", "0", "0 0 0\n1 1 1\n", Status::BadFile, "line 10 cause 13 Overlap\n"),
+    ("1", "1", "0", "3 3 3", Status::BadFile, "line 9 cause 18 NoFrame\n"),
+    ("2", "1", "0", "0 0 0\n", Status::BadFile, "line 10 cause 18 NoFrame\n"),
+    ("262145", "1", "0", "0 0 0\n", Status::BadFile, "line 1 cause 19 Unbuilt\n"),
+    ("1", "2", "0", "0 0 0\n", Status::BadFile, "line 6 cause 19 Unbuilt\n"),
+    ("1", "1", "0", "0 0\n", Status::BadFile, "line 9 cause 19 Unbuilt\n"),
+    ("1", "1", "0", "0 0 0\n\n!mcs=1\n0 0 0\n", Status::BadFile, "line 10 cause 19 Unbuilt\n"),
+    ("1", "1", "1099511627776", "3 3 3\n", Status::TooFar, "far 1099511627777 4\n"),
+    ("1", "1", "0", "-17592186044416 0 0\n", Status::TooFar, "far 1 17592186044417\n"),
+];
+
+#[test]
+fn refused_files_and_far_runs(rt: HostRuntime) -> Result<(), Fail> {
+    for (monomers, periodic, mcs, positions, status, report) in REFUSALS {
+        let file = file_of(rt.alloc(), monomers, periodic, mcs, positions)?;
+        let ended = answer_to(rt.alloc(), WORDS, file.as_bytes(), 1000)?;
+        assert_eq!(rt; ended.status, status, "{report}");
+        assert!(rt; ended.output.bytes().is_empty(), "{report}");
+        assert!(rt; ended.report.bytes() == report.as_bytes(), "{report}");
+    }
+    Ok(())
+}
+
+#[test]
+fn wrong_words_leave_the_input_unread(rt: HostRuntime) -> Result<(), Fail> {
+    // (words, the number of the first wrong one)
+    let table = [
+        ("", 1),
+        ("walk seed=42 frames=1 every=1", 1),
+        ("run seed=42 frames=1", 4),
+        ("run seed=42 seed=1 frames=1 every=1", 3),
+        ("run seed=42 frames=1048577 every=1", 3),
+        ("run seed=42 frames=1 every=0", 4),
+        ("run seed=18446744073709551616 frames=1 every=1", 2),
+        ("run seed=42 frames=1 every=1 speed=1", 5),
+    ];
+    for (words, place) in table {
+        let mut input = MemSource::new(rt.alloc(), ONE.as_bytes(), 1, &[])?;
+        let mut output = MemSink::new(rt.alloc(), 0, 1, &[])?;
+        let mut report = MemSink::new(rt.alloc(), 100, 1, &[])?;
+        let status = run_over(rt.alloc(), words, &mut input, &mut output, &mut report)?;
+        let text = format!(in rt.alloc(); "words {place}\n")?;
+        let mut first = [0u8; 8];
+        assert_eq!(rt; status, Status::BadWords, "{words}");
+        assert!(rt; report.bytes() == text.as_bytes(), "{words}");
+        assert!(rt; input.read(&mut first) == Ok(1), "{words}");
+        assert_eq!(rt; first[0], b'!', "{words}");
+    }
+    Ok(())
+}
+
+// The first job reads 104 bytes and the end, writes 118 bytes and reports 53, each a byte a call.
+#[test]
+fn each_call_of_the_input_fails_in_turn(rt: HostRuntime) -> Result<(), Fail> {
+    for call in 1..107u64 {
+        let mut input = MemSource::new(rt.alloc(), ONE.as_bytes(), 1, &[call])?;
+        let mut output = MemSink::new(rt.alloc(), 200, 1, &[])?;
+        let mut report = MemSink::new(rt.alloc(), 200, 1, &[])?;
+        let status = run_over(rt.alloc(), WORDS, &mut input, &mut output, &mut report)?;
+        if call <= 105 {
+            assert_eq!(rt; status, Status::ReadFault, "call {call}");
+            assert!(rt; output.bytes().is_empty(), "call {call}");
+            assert!(rt; report.bytes() == b"read\n".as_slice(), "call {call}");
+        } else {
+            assert_eq!(rt; status, Status::Done, "call {call}");
+        }
+    }
+    Ok(())
+}
+
+#[test]
+fn each_call_of_the_output_fails_in_turn(rt: HostRuntime) -> Result<(), Fail> {
+    let whole = format!(in rt.alloc(); "{ONE}{ADDED}")?;
+    for call in 1..121u64 {
+        let mut input = MemSource::new(rt.alloc(), ONE.as_bytes(), 50, &[])?;
+        let mut output = MemSink::new(rt.alloc(), 200, 1, &[call])?;
+        let mut report = MemSink::new(rt.alloc(), 200, 1, &[])?;
+        let status = run_over(rt.alloc(), WORDS, &mut input, &mut output, &mut report)?;
+        let taken = output.bytes().len() as u64;
+        assert!(rt; whole.as_bytes().starts_with(output.bytes()), "call {call}");
+        if call <= 119 {
+            assert_eq!(rt; status, Status::WriteFault, "call {call}");
+            assert_eq!(rt; taken, call - 1);
+            assert!(rt; report.bytes() == b"write\n".as_slice(), "call {call}");
+        } else {
+            assert_eq!(rt; status, Status::Done, "call {call}");
+            assert_eq!(rt; taken, 118);
+        }
+    }
+    Ok(())
+}
+
+#[test]
+fn each_call_of_the_report_fails_in_turn(rt: HostRuntime) -> Result<(), Fail> {
+    let whole = format!(in rt.alloc(); "{ONE}{ADDED}")?;
+    for call in 1..56u64 {
+        let mut input = MemSource::new(rt.alloc(), ONE.as_bytes(), 50, &[])?;
+        let mut output = MemSink::new(rt.alloc(), 200, 64, &[])?;
+        let mut report = MemSink::new(rt.alloc(), 200, 1, &[call])?;
+        let status = run_over(rt.alloc(), WORDS, &mut input, &mut output, &mut report)?;
+        let taken = report.bytes().len() as u64;
+        assert!(rt; output.bytes() == whole.as_bytes(), "call {call}");
+        assert!(rt;
+            REPORT.as_bytes().starts_with(report.bytes()),
+            "call {call}"
+        );
+        if call <= 54 {
+            assert_eq!(rt; status, Status::ReportFault, "call {call}");
+            assert_eq!(rt; taken, call - 1);
+        } else {
+            assert_eq!(rt; status, Status::Done, "call {call}");
+            assert_eq!(rt; taken, 53);
+        }
+    }
+    Ok(())
+}
+
+#[test]
+fn an_input_that_fails_in_mid_file(rt: HostRuntime) -> Result<(), Fail> {
+    let mut input = MemSource::new(rt.alloc(), ONE.as_bytes(), 50, &[2])?;
+    let mut output = MemSink::new(rt.alloc(), 200, 200, &[])?;
+    let mut report = MemSink::new(rt.alloc(), 200, 200, &[])?;
+    let status = run_over(rt.alloc(), WORDS, &mut input, &mut output, &mut report)?;
+    assert_eq!(rt; status, Status::ReadFault);
+    assert_eq!(rt; status.code(), 5);
+    assert!(rt; output.bytes().is_empty());
+    assert!(rt; report.bytes() == b"read\n".as_slice());
+    Ok(())
+}
