@@ -1,3 +1,4 @@
 pub mod GivenLemmas
+pub mod PieceLemmas
 pub mod SendLemmas
 pub mod TookLemmas

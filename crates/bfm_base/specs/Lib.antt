@@ -2,3 +2,4 @@ pub mod Cause
 pub mod Direction
 pub mod Faults
 pub mod Memory
+pub mod Place

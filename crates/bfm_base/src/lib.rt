@@ -17,4 +17,4 @@ pub use cause::{Cause, ReadStop, Refused};
 pub use memory::{MemSink, MemSource};
 pub use place::{Dir, P3, Shape};
 pub use standard::{StdSink, StdSource};
-pub use stream::{Failed, Sink, Source, send};
+pub use stream::{Failed, Sink, Source, send, send_all};

@@ -1,5 +1,6 @@
 ghost use Rattle.std.specs.Prelude.{◌≡◌, ◌<◌, Some, slice_get};
 ghost use Rattle.bfm_base.specs.Direction.{directions, step_of};
+ghost use Rattle.bfm_base.specs.Place.{extent_of};
 
 /// A place on the simple cubic lattice, or the difference of two places, in lattice units.
 #[derive(Clone, Copy, Debug, PartialEq, Eq, Hash)]
@@ -7,6 +8,16 @@ pub struct P3 {
     pub x: i64,
     pub y: i64,
     pub z: i64,
+}
+
+impl P3 {
+    /// The greatest absolute value of a coordinate.
+    pub fn extent(self) -> u64
+        ensures { result ≡ extent_of self }
+    {
+        let across = self.y.unsigned_abs().max(self.z.unsigned_abs());
+        self.x.unsigned_abs().max(across)
+    }
 }
 
 /// The direction of a local move, numbered 0 to 5 in this order.

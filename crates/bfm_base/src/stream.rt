@@ -1,4 +1,5 @@
 ghost use Rattle.std.specs.Prelude.{◌≡◌, ℕ, ◌<◌, ◌≤◌, List, Option, length, IfOk, OnOk, OnErr};
+ghost use Rattle.std.specs.List.{flat_map};
 ghost use Rattle.std.specs.Io.{ReadsAtMost, WritesAtMost};
 ghost use Rattle.std.specs.Io.KnownBytes.{ReadConsumes, WriteAppends, Keeps};
 ghost use Rattle.bfm_base.specs.Faults.{Rose, TookAll, TookFront};
@@ -60,6 +61,17 @@ pub fn send<S: Sink>(sink: &mut S, bytes: &[u8]) -> Result<(), Failed>
     while !rest.is_empty() {
         let taken = sink.write(rest)?;
         rest = &rest[taken..];
+    }
+    Ok(())
+}
+
+/// Writes pieces of text, one after another.
+pub fn send_all<S: Sink>(sink: &mut S, pieces: &[&[u8]]) -> Result<(), Failed>
+    ensures ok { OnOk result (TookAll (S.taken sink.old) (S.taken sink.new) (S.faults sink.old) (S.faults sink.new) (flat_map (λ piece. piece.now) pieces.now)) }
+    ensures failed { OnErr result (TookFront (S.taken sink.old) (S.taken sink.new) (S.faults sink.old) (S.faults sink.new) (flat_map (λ piece. piece.now) pieces.now)) }
+{
+    for piece in pieces {
+        send(sink, piece)?;
     }
     Ok(())
 }

@@ -1,5 +1,5 @@
 -- The wrapped form of a difference along an axis: it is the nearest one, and there is one alone.
-use Rattle.std.proofs.Common.{◌≡◌, ℕ, zero, suc, ◌+◌, ◌/◌, ◌<◌, Bool, true, false, cond, refl, sym, ◌∙◌, ap, subst, arith, ℤ, pos, negsuc, neg_ℤ, ◌+ℤ◌, ◌-ℤ◌, ◌*ℤ◌, ◌<ℤ◌, ◌≤ℤ◌, nat_abs, nat_le, ◌&&◌}
+use Rattle.std.proofs.Common.{◌≡◌, ℕ, zero, suc, ◌+◌, ◌/◌, ◌<◌, ◌≤◌, Bool, true, false, cond, refl, sym, ◌∙◌, ap, subst, arith, ℤ, pos, negsuc, neg_ℤ, ◌+ℤ◌, ◌-ℤ◌, ◌*ℤ◌, ◌<ℤ◌, ◌≤ℤ◌, nat_abs, nat_le, ◌&&◌}
 use Rattle.std.specs.Int.{int_rem_euclid}
 use Rattle.std.specs.Prelude.{int_le}
 use Rattle.std.proofs.lemmas.Int.{ints, by_lt_z}
@@ -7,7 +7,8 @@ use Rattle.std.proofs.Math.IntN.{*ℤ_comm}
 use Rattle.bfm_geom.proofs.IntegerLemmas.{*ℤ-neg_ℤ, *ℤ-+ℤ}
 use Rattle.bfm_base.specs.declared.place.P3.{P3}
 use Rattle.bfm_base.specs.declared.place.Shape.{Shape}
-use Rattle.bfm_geom.specs.Difference.{IsBox, IsNearest, IsWrapped, IsWrappedAlong, minus, overlaps, side_of, is_periodic, wrapped, wrapped_along}
+use Rattle.bfm_base.specs.Place.{extent_of}
+use Rattle.bfm_geom.specs.Difference.{IsBox, IsNearest, IsWrapped, IsWrappedAlong, plus, minus, overlaps, side_of, is_periodic, wrapped, wrapped_along}
 
 -- what the remainder leaves is a whole number of sides, and it lies from 0 to below the side
 folded_is : (side : ℕ) (d : ℤ) → 0 < side → (k : ℤ) × ((int_rem_euclid d (pos side) ≡ d +ℤ k *ℤ pos side) × (pos 0 ≤ℤ int_rem_euclid d (pos side)) × (int_rem_euclid d (pos side) <ℤ pos side))
@@ -46,7 +47,7 @@ IsWrappedAlong-unique true side d v w p q =
     omega (arith, ints)
 
 -- what is nearest to d is, turned round, nearest to minus d, but at half the side
-IsNearest-neg : (side : ℕ) (d w : ℤ) → IsNearest side d w → (pos 2 *ℤ w) <ℤ pos side → IsNearest side (neg_ℤ d) (neg_ℤ w)
+pub IsNearest-neg : (side : ℕ) (d w : ℤ) → IsNearest side d w → (pos 2 *ℤ w) <ℤ pos side → IsNearest side (neg_ℤ d) (neg_ℤ w)
 IsNearest-neg side d w p h = record {
   turns = (neg_ℤ p.turns.0, omega (arith, ints, p.turns.1, *ℤ_comm (neg_ℤ p.turns.0) (pos side), *ℤ_comm p.turns.0 (pos side), *ℤ-neg_ℤ (pos side) p.turns.0));
   above = omega (arith, ints);
@@ -101,3 +102,11 @@ pub P3-same : (a b : P3) → a.x ≡ b.x → a.y ≡ b.y → a.z ≡ b.z → a �
 P3-same a b x y z =
     let at : ℤ → ℤ → ℤ → P3 = λ x y z. record { x = x; y = y; z = z } in
     ap (λ n. at n a.y a.z) x ∙ ap (λ n. at b.x n a.z) y ∙ ap (at b.x b.y) z
+
+nat_abs-sum : (a b : ℤ) → nat_abs (a +ℤ b) ≤ nat_abs a + nat_abs b
+nat_abs-sum a b = omega (arith, ints)
+
+-- a vector leads no further than it reaches
+pub extent_of-plus : (q p v : P3) → q ≡ plus p v → extent_of q ≤ extent_of p + extent_of v
+extent_of-plus q p v e =
+    omega (arith, nat_abs-sum p.x v.x, nat_abs-sum p.y v.y, nat_abs-sum p.z v.z, ap (λ (r : P3). nat_abs r.x) e, ap (λ (r : P3). nat_abs r.y) e, ap (λ (r : P3). nat_abs r.z) e)

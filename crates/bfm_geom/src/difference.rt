@@ -1,7 +1,46 @@
-ghost use Rattle.std.specs.Prelude.{◌≡◌, ◌^◌, ◌≤◌, true, nat_abs, nat_le};
-ghost use Rattle.bfm_geom.specs.Difference.{IsBox, IsSide, IsWithin, IsWrapped, wrapped, wrapped_along, overlaps};
+ghost use Rattle.std.specs.Prelude.{◌≡◌, ◌+◌, ◌^◌, ◌≤◌, true, nat_abs, nat_le};
+ghost use Rattle.bfm_base.specs.Place.{extent_of};
+ghost use Rattle.bfm_geom.specs.Difference.{IsBox, IsSide, IsWithin, IsWrapped, minus, plus, wrapped, wrapped_along, overlaps};
 
 use bfm_base::{P3, Shape};
+
+/// The difference of two places, in lattice units: the plain one, whatever the box.
+pub fn plain_difference(from: P3, to: P3) -> P3
+    requires from { IsWithin (2 ^ 45) from }
+    requires to { IsWithin (2 ^ 45) to }
+    ensures value { result ≡ minus to from }
+    ensures reach { IsWithin (2 ^ 46) result }
+    ensures near { IsWithin (2 ^ 10) from → IsWithin (2 ^ 10) to → IsWithin (2 ^ 11) result }
+{
+    P3 {
+        x: to.x - from.x,
+        y: to.y - from.y,
+        z: to.z - from.z,
+    }
+}
+
+/// The place that a vector leads to from another, in lattice units.
+pub fn shifted(p: P3, vector: P3) -> P3
+    requires place { extent_of p ≤ 2 ^ 45 }
+    requires vector { extent_of vector ≤ 2 ^ 45 }
+    ensures value { result ≡ plus p vector }
+    ensures near { extent_of result ≤ extent_of p + extent_of vector }
+{
+    sum(p, vector)
+}
+
+// The sum of two vectors.
+fn sum(a: P3, b: P3) -> P3
+    requires first { extent_of a ≤ 2 ^ 45 }
+    requires second { extent_of b ≤ 2 ^ 45 }
+    ensures { result ≡ plus a b }
+{
+    P3 {
+        x: a.x + b.x,
+        y: a.y + b.y,
+        z: a.z + b.z,
+    }
+}
 
 /// The wrapped form of the difference of two places, in lattice units: on a periodic axis the
 /// number that differs from the component by whole sides and lies above minus half the side and at

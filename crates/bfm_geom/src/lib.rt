@@ -12,5 +12,5 @@ mod stretch;
 mod tests;
 mod upright;
 
-pub use difference::{overlap, wrap};
+pub use difference::{overlap, plain_difference, shifted, wrap};
 pub use meeting::{Weights, meets};

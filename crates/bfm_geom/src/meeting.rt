@@ -3,6 +3,7 @@ ghost use Rattle.bfm_geom.specs.Difference.{IsWithin, minus};
 ghost use Rattle.bfm_geom.specs.Meeting.{IsCommonPoint, IsUnit, Meets};
 ghost use Rattle.bfm_geom.specs.Upright.{cycled};
 
+use crate::difference::plain_difference;
 use crate::upright::meets_upright;
 use bfm_base::P3;
 
@@ -45,17 +46,14 @@ pub fn meets(a: P3, b: P3, b2: P3, c: P3, d: P3) -> Option<Weights>
     }
 }
 
+// The difference of two of these places.
 fn difference(from: P3, to: P3) -> P3
     requires from { IsWithin (2 ^ 10) from }
     requires to { IsWithin (2 ^ 10) to }
     ensures value { result ≡ minus to from }
     ensures reach { IsWithin (2 ^ 11) result }
 {
-    P3 {
-        x: to.x - from.x,
-        y: to.y - from.y,
-        z: to.z - from.z,
-    }
+    plain_difference(from, to)
 }
 
 // The axes in the order y, z, x.
