@@ -14,7 +14,8 @@ use Rattle.bfm_base.specs.declared.place.P3.{P3}
 use Rattle.bfm_base.specs.declared.cause.Cause.{Cause}
 use Rattle.bfm_base.specs.declared.cause.Cause.TheVariants.{OutOfLimit, BadVector, Repeated}
 use Rattle.bond_set.proofs.ListLemmas.{Contains-map, find-none, find-none_from_all, None-from_is_some, IsSome-from_is_none, is_none-IsSome}
-use Rattle.bond_set.specs.BondSet.{same_vector, reach_of, is_bond_vector, vectors_of, ids_of, flipped, id_of, vector_of, IsBondSet, is_identifier, refusal_of, IsSymmetric, is_unpaired, negative_of, first_unpaired}
+use Rattle.bfm_base.specs.Place.{extent_of}
+use Rattle.bond_set.specs.BondSet.{same_vector, is_bond_vector, vectors_of, ids_of, flipped, id_of, vector_of, IsBondSet, is_identifier, refusal_of, IsSymmetric, is_unpaired, negative_of, first_unpaired}
 
 -- ---- equality of vectors
 pub same_vector-equiv : IsEquivalence same_vector
@@ -29,8 +30,8 @@ same_from_same_vector a b h =
 
 -- ---- vectors
 -- a bond vector reaches 3 at most
-pub reach_of-bond_vector : (v : P3) → IsTrue (is_bond_vector v) → reach_of v ≤ 3
-reach_of-bond_vector v h = grind (arith, nat_tests)
+pub extent_of-bond_vector : (v : P3) → IsTrue (is_bond_vector v) → extent_of v ≤ 3
+extent_of-bond_vector v h = grind (arith, nat_tests)
 
 -- ---- the identifier of a vector
 -- a vector has an identifier where it is in the set

@@ -1,10 +1,11 @@
 -- Sets of bond vectors. A contract sees a set as the list of its pairs of vector and identifier,
 -- in the order of adding.
-use Rattle.std.specs.Prelude.{ℕ, ℤ, pos, negsuc, neg_ℤ, unsigned_abs, ◌≤◌, max, Bool, false, ◌&&◌, ◌||◌, not, ◌==◌, nat_le, nat_eq, if◌then◌else◌, IsTrue, List, map, length, Option, Some, None, is_some, is_none}
+use Rattle.std.specs.Prelude.{ℕ, ℤ, pos, negsuc, neg_ℤ, unsigned_abs, ◌≤◌, Bool, false, ◌&&◌, ◌||◌, not, ◌==◌, nat_le, nat_eq, if◌then◌else◌, IsTrue, List, map, length, Option, Some, None, is_some, is_none}
 use Rattle.std.specs.List.{All, Contains, find, IsDistinct}
 use Rattle.std.specs.Map.{lookup}
 use Rattle.std.specs.Ordering.{int_eq}
 use Rattle.bfm_base.specs.declared.place.P3.{P3}
+use Rattle.bfm_base.specs.Place.{extent_of}
 use Rattle.bfm_base.specs.declared.cause.Cause.{Cause}
 use Rattle.bfm_base.specs.declared.cause.Cause.TheVariants.{OutOfLimit, BadVector, Repeated}
 
@@ -16,13 +17,9 @@ same_vector a b = int_eq a.x b.x && (int_eq a.y b.y && int_eq a.z b.z)
 abbrev pub negative_of : P3 → P3
 negative_of v = record { x = neg_ℤ v.x; y = neg_ℤ v.y; z = neg_ℤ v.z }
 
--- the greatest absolute value of a component
-abbrev pub reach_of : P3 → ℕ
-reach_of v = max (unsigned_abs v.x) (max (unsigned_abs v.y) (unsigned_abs v.z))
-
 -- a bond reaches 2 or 3 lattice units along an axis
 abbrev pub is_bond_vector : P3 → Bool
-is_bond_vector v = (reach_of v == 2) || (reach_of v == 3)
+is_bond_vector v = (extent_of v == 2) || (extent_of v == 3)
 
 -- an identifier is a byte, but not 0, a tab or a byte that ends a line
 abbrev pub is_identifier : ℤ → Bool

@@ -1,7 +1,8 @@
 ghost use Rattle.std.specs.Prelude.{◌≡◌, ◌+◌, ◌^◌, ◌<◌, ◌≤◌, ◌↔◌, [], ◌∷◌, ◌++◌, length, unsigned_abs, IsTrue, IsSome, IfSome, IfOk, OnOk, OnErr, IsOk, IfErr, pos, slice_get};
 ghost use Rattle.std.specs.List.{Contains};
 ghost use Rattle.bfm_base.specs.declared.place.P3.{P3};
-ghost use Rattle.bond_set.specs.BondSet.{IsBondSet, IsSymmetric, vectors_of, ids_of, reach_of, negative_of, first_unpaired, refusal_of};
+ghost use Rattle.bfm_base.specs.Place.{extent_of};
+ghost use Rattle.bond_set.specs.BondSet.{IsBondSet, IsSymmetric, vectors_of, ids_of, negative_of, first_unpaired, refusal_of};
 ghost use Rattle.bond_set.specs.BondSet as bond_set;
 ghost use Rattle.bond_set.specs.SetFault.{refused_cause};
 ghost use Rattle.bond_set.specs.UsualSet.{usual_set, IsUsual};
@@ -42,6 +43,7 @@ pub struct BondSet {
 impl Model for BondSet {
     ghost use Rattle.std.specs.Prelude.{◌≡◌, List, ℕ};
     ghost use Rattle.bfm_base.specs.declared.place.P3.{P3};
+    ghost use Rattle.bfm_base.specs.Place.{extent_of};
     ghost use Rattle.bond_set.specs.BondSet.{IsBondSet, flipped};
 
     ghost Value = { List (P3 × ℕ) };
@@ -101,7 +103,7 @@ impl BondSet {
     pub fn vector(&self, k: usize) -> P3
         requires { k < length self.now }
         ensures value { slice_get (vectors_of self.now) k ≡ Some result }
-        ensures reach { reach_of result ≤ 3 }
+        ensures reach { extent_of result ≤ 3 }
     {
         let (v, _) = self.ids.get_index(k).unwrap();
         *v
@@ -129,7 +131,7 @@ impl BondSet {
         ensures value { result ≡ bond_set.vector_of self.now id }
         ensures present { IsSome result ↔ Contains (ids_of self.now) id }
         ensures pair { IfSome result (λ v. Contains self.now (v, id)) }
-        ensures reach { IfSome result (λ v. reach_of v ≤ 3) }
+        ensures reach { IfSome result (λ v. extent_of v ≤ 3) }
     {
         self.vectors.get(&id).copied()
     }
@@ -213,13 +215,11 @@ fn is_identifier(id: i64) -> bool
 fn is_bond_vector(v: P3) -> bool
     ensures { result ≡ bond_set.is_bond_vector v }
 {
-    let y_or_z = v.y.unsigned_abs().max(v.z.unsigned_abs());
-    let reach = v.x.unsigned_abs().max(y_or_z);
-    reach == 2 || reach == 3
+    matches!(v.extent(), 2 | 3)
 }
 
 fn negative(v: P3) -> P3
-    requires { reach_of v ≤ 3 }
+    requires { extent_of v ≤ 3 }
     ensures { result ≡ negative_of v }
 {
     P3 {

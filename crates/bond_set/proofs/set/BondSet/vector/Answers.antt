@@ -4,7 +4,7 @@ use Rattle.std.specs.Map.Iter.{deref_pair}
 use Rattle.std.specs.Option.{option_map}
 use Rattle.bond_set.specs.BondSet as bond_set
 use Rattle.bond_set.proofs.ListLemmas.{All-slice_get}
-use Rattle.bond_set.proofs.PairLemmas.{reach_of-bond_vector}
+use Rattle.bond_set.proofs.PairLemmas.{extent_of-bond_vector}
 use Rattle.bond_set.proofs.set.BondSet.vector.Goals as goal
 
 pub returns-clause-reach : goal.returns-clause-reach
@@ -14,4 +14,4 @@ returns-clause-reach c =
     let entry = sym c.get_index.ensures.entry ∙ ap (option_map deref_pair) c.unwrap.ensures in
     let at : slice_get (bond_set.vectors_of pairs) c.args.k ≡ Some v =
     slice_get-map (λ e. e.0) pairs c.args.k ∙ ap (option_map (λ e. e.0)) entry in
-    reach_of-bond_vector v (All-slice_get (λ w. IsTrue (bond_set.is_bond_vector w)) _ c.args.k v c.self.invariant.1.vectors at)
+    extent_of-bond_vector v (All-slice_get (λ w. IsTrue (bond_set.is_bond_vector w)) _ c.args.k v c.self.invariant.1.vectors at)
