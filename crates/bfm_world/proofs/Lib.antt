@@ -1,2 +1,4 @@
+pub mod BondLemmas
 pub mod ReachLemmas
 pub mod ValidLemmas
+pub mod VectorLemmas

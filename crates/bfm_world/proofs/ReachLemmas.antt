@@ -1,5 +1,6 @@
 -- How far monomers are from the origin.
 use Rattle.std.proofs.Common.{◌≡◌, ℕ, zero, suc, ◌+◌, ◌<◌, ◌≤◌, max, List, [], ◌∷◌, ◌++◌, length, take, drop, get_or, ℤ, pos, negsuc, nat_abs, ◌+ℤ◌, arith, ap, ◌∙◌}
+use Rattle.std.specs.Prelude.{slice_get, IfSome}
 use Rattle.std.proofs.lemmas.List.{take_more}
 use Rattle.std.proofs.Math.ListN.{set}
 use Rattle.std.proofs.Math.IntN.{sub_ℕ}
@@ -9,7 +10,8 @@ use Rattle.bfm_base.specs.declared.place.Dir.{Dir}
 use Rattle.bfm_base.specs.declared.place.Dir.TheVariants.{XUp, XDown, YUp, YDown, ZUp, ZDown}
 use Rattle.bfm_base.specs.Direction.{step_of}
 use Rattle.bfm_geom.specs.Difference.{plus, IsWithin}
-use Rattle.bfm_world.specs.Configuration.{Configuration, extent_of, reach_of, position_of, target_of}
+use Rattle.bfm_base.specs.Place.{extent_of}
+use Rattle.bfm_world.specs.Configuration.{Configuration, reach_of, position_of, target_of}
 
 pub reach_of-append : (xs ys : List P3) → reach_of (xs ++ ys) ≡ max (reach_of xs) (reach_of ys)
 reach_of-append [] ys = omega arith
@@ -70,3 +72,9 @@ IsWithin-from_extent p n h = record { x = omega arith; y = omega arith; z = omeg
 pub extent_of-target : (w : Configuration) (i : ℕ) (d : Dir) → i < length w.positions → extent_of (target_of w i d) ≤ reach_of w.positions + 1
 extent_of-target w i d h =
     omega (arith, extent_of-step (position_of w i) d, extent_at w.positions i (record { x = pos 0; y = pos 0; z = pos 0 }) h)
+
+-- a position that is there is within the reach
+pub within_reach : (positions : List P3) (i n : ℕ) → reach_of positions ≤ n → IfSome (slice_get positions i) (IsWithin n)
+within_reach [] i n h = tt
+within_reach (p ∷ ps) zero n h = IsWithin-from_extent p n (omega arith)
+within_reach (p ∷ ps) (suc i) n h = within_reach ps i n (omega arith)

@@ -1,5 +1,6 @@
 -- What is placed apart stays apart.
-use Rattle.std.proofs.Common.{◌≡◌, ℕ, zero, suc, ◌<◌, ◌≤◌, Bool, true, false, not, ◌&&◌, inl, inr, ◌≢◌, List, [], ◌∷◌, ◌++◌, length, get_or, remove, refl, ap, sym, ◌∙◌, subst, arith, AllPairs, length-append}
+use Rattle.std.proofs.Common.{◌≡◌, ℕ, zero, suc, ◌<◌, ◌≤◌, Bool, true, false, not, ◌&&◌, inl, inr, ◌≢◌, List, [], ◌∷◌, ◌++◌, length, get_or, remove, refl, ap, sym, ◌∙◌, subst, arith, AllPairs, length-append, replicate, ◌^◌}
+use Rattle.std.specs.Prelude.{slice_get}
 use Rattle.std.proofs.Math.ListN.{set}
 use Rattle.std.proofs.lemmas.List.{get_or-set_same, get_or-set_other, length-set, get_or_append_left}
 use Rattle.std.proofs.Math.Seq.{get_or-append_seam}
@@ -10,17 +11,16 @@ use Rattle.bfm_base.specs.declared.place.Shape.{Shape}
 use Rattle.bfm_base.specs.declared.place.Dir.{Dir}
 use Rattle.bfm_geom.specs.Difference.{overlaps}
 use Rattle.bfm_geom.proofs.DifferenceLemmas.{overlaps-symmetric}
-use Rattle.bfm_world.specs.Configuration.{Configuration, IsValid, is_clear, is_within_walls, is_legal, moved, target_of, extent_of, reach_of, greatest_reach}
+use Rattle.bfm_base.specs.Place.{extent_of}
+use Rattle.bfm_world.specs.Configuration.{Configuration, IsValid, is_clear, is_within_walls, is_legal, moved, target_of, may_bond, keeps_bonds, position_at, reach_of, greatest_reach}
+use Rattle.bfm_world.proofs.BondLemmas.{and_left, and_right}
 use Rattle.bfm_world.proofs.ReachLemmas.{reach_of-set}
-use Rattle.bfm_world.specs.Draft.{Draft, IsSound}
-
-and_left : (a b : Bool) → (a && b) ≡ true → a ≡ true
-and_left true b h = refl
-and_left false b h = h
-
-and_right : (a b : Bool) → (a && b) ≡ true → b ≡ true
-and_right true b h = h
-and_right false b h = absurd (cc)
+use Rattle.bfm_world.specs.Draft.{Draft, IsSound, may_join}
+use Rattle.bfm_world.specs.Bonds.{AreBonds, neighbours_of, are_bonded, is_full, with_bond}
+use Rattle.bfm_world.proofs.BondLemmas.{AreBonds-with_bond, AreBonds-none}
+use Rattle.bfm_world.proofs.VectorLemmas.{HasVectors-placed, HasVectors-moved, HasVectors-joined, may_reach-at}
+use Rattle.bond_set.specs.BondSet.{IsBondSet, IsSymmetric}
+use Rattle.bfm_geom.specs.Difference.{IsBox}
 
 not_true : (a : Bool) → not a ≡ true → a ≡ false
 not_true true h = absurd (cc)
@@ -72,14 +72,20 @@ pub IsValid-moved : (w : Configuration) (i : ℕ) (d : Dir) → IsValid w → i 
 IsValid-moved w i d v l h =
     let walls = is_within_walls w.shape (target_of w i d) in
     let free = is_clear w.shape (remove w.positions i) (target_of w i d) in
-    let clear = clear_of_others w.shape w.positions i (target_of w i d) (and_right walls free h) in
+    let kept = keeps_bonds w.shape w.set w.positions (neighbours_of w.bonds i) (target_of w i d) in
+    let both = and_left (walls && free) kept h in
+    let clear = clear_of_others w.shape w.positions i (target_of w i d) (and_right walls free both) in
     record {
       box = v.box;
+      set = v.set;
+      symmetric = v.symmetric;
       some = omega (arith, length-set w.positions i (target_of w i d), v.some);
       few = omega (arith, length-set w.positions i (target_of w i d), v.few);
-      inside = All-set (λ p. is_within_walls w.shape p ≡ true) w.positions i (target_of w i d) (and_left walls free h) v.inside;
+      inside = All-set (λ p. is_within_walls w.shape p ≡ true) w.positions i (target_of w i d) (and_left walls free both) v.inside;
       apart = pair_set (λ p q. overlaps w.shape p q ≡ false) w.positions i (target_of w i d)
           (λ j e ne k. (clear j e ne k, overlaps-symmetric w.shape (target_of w i d) (get_or w.positions j e) v.box ∙ clear j e ne k)) v.apart l;
+      bonds = subst (λ n. AreBonds n w.bonds) (sym (length-set w.positions i (target_of w i d))) v.bonds;
+      vectors = HasVectors-moved w.shape w.set v.box v.set v.symmetric (length w.positions) w.positions w.bonds i (target_of w i d) v.bonds v.vectors l (and_right (walls && free) kept h);
     }
 
 -- what `World::shift` keeps, where w are the fields and v is the world that a caller sees
@@ -93,18 +99,69 @@ shift_keeps w v i d t e valid reach l legal near is =
     subst (λ u. IsValid (record w { positions = set w.positions i u }) × (reach_of (set w.positions i u) ≤ greatest_reach)) (sym target)
     (IsValid-moved w i d valid inside (subst (λ u. is_legal u i d ≡ true) (sym e) legal), omega (arith, reach_of-set w.positions i (target_of w i d)))
 
--- a monomer that is placed clear of the others leaves a sound draft
+-- a monomer that is placed clear of the others and keeps its bonds leaves a sound draft
 pub IsSound-placed : (b : Draft) (p : P3) → IsSound b → length b.positions < b.count → is_within_walls b.shape p ≡ true → is_clear b.shape b.positions p ≡ true
-    → IsSound (record b { positions = b.positions ++ p ∷ [] })
-IsSound-placed b p s l h k = record {
+    → keeps_bonds b.shape b.set b.positions (neighbours_of b.bonds (length b.positions)) p ≡ true → IsSound (record b { positions = b.positions ++ p ∷ [] })
+IsSound-placed b p s l h k kept = record {
   box = s.box;
+  set = s.set;
+  symmetric = s.symmetric;
   some = s.some;
   few = s.few;
   room = omega (arith, length-append b.positions (p ∷ []));
   inside = All-push (λ q. is_within_walls b.shape q ≡ true) b.positions p s.inside h;
   apart = pair_push (λ q r. overlaps b.shape q r ≡ false) b.positions p (clear_at b.shape b.positions p k) s.apart;
+  bonds = s.bonds;
+  vectors = HasVectors-placed b.shape b.set s.box s.set s.symmetric b.count b.positions b.bonds p s.bonds s.vectors kept;
+}
+
+may_join-at : (b : Draft) (p q : List P3) (i j : ℕ) → may_join b (slice_get p i) (slice_get q j) ≡ true → i < length p → j < length q → may_bond b.shape b.set (position_at p i) (position_at q j) ≡ true
+may_join-at b [] q i j h l m = absurd (omega arith)
+may_join-at b (x ∷ xs) q zero j h l m = may_reach-at b.shape b.set q x j h m
+may_join-at b (x ∷ xs) q (suc i) j h l m = may_join-at b xs q i j h (omega arith) m
+
+-- a draft with one bond more
+pub IsSound-joined : (b : Draft) (i j : ℕ) → IsSound b → i ≢ j → i < b.count → j < b.count → are_bonded b.bonds i j ≡ false → may_join b (slice_get b.positions i) (slice_get b.positions j) ≡ true
+    → is_full b.bonds i ≡ false → is_full b.bonds j ≡ false → IsSound (record b { bonds = with_bond b.bonds i j })
+IsSound-joined b i j s ne l m new may room_i room_j = record {
+  box = s.box;
+  set = s.set;
+  symmetric = s.symmetric;
+  some = s.some;
+  few = s.few;
+  room = s.room;
+  inside = s.inside;
+  apart = s.apart;
+  bonds = AreBonds-with_bond b.count b.bonds i j s.bonds ne l m new room_i room_j;
+  vectors = HasVectors-joined b.shape b.set s.box s.set s.symmetric b.positions b.bonds i j s.vectors ne (omega (arith, s.bonds.rows)) (omega (arith, s.bonds.rows)) (may_join-at b b.positions b.positions i j may);
+}
+
+-- a draft in which nothing is placed and nobody is bonded
+pub IsSound-begun : (shape : Shape) (set : List (P3 × ℕ)) (n : ℕ) → IsBox shape → IsBondSet set → IsSymmetric set → 1 ≤ n → n ≤ 2 ^ 18
+    → IsSound (record { shape = shape; set = set; count = n; positions = []; bonds = replicate n [] })
+IsSound-begun shape set n box bond_set symmetric some few = record {
+  box = box;
+  set = bond_set;
+  symmetric = symmetric;
+  some = some;
+  few = few;
+  room = omega arith;
+  inside = λ k d l. absurd (omega arith);
+  apart = λ i j d l m. absurd (omega arith);
+  bonds = AreBonds-none n;
+  vectors = λ i j l m h. absurd (omega arith);
 }
 
 -- a draft with each monomer placed is a valid world
-pub IsValid-from_sound : (b : Draft) → IsSound b → length b.positions ≡ b.count → IsValid (record { shape = b.shape; positions = b.positions })
-IsValid-from_sound b s e = record { box = s.box; some = omega (arith, e, s.some); few = omega (arith, e, s.few); inside = s.inside; apart = s.apart }
+pub IsValid-from_sound : (b : Draft) → IsSound b → length b.positions ≡ b.count → IsValid (record { shape = b.shape; set = b.set; positions = b.positions; bonds = b.bonds })
+IsValid-from_sound b s e = record {
+  box = s.box;
+  set = s.set;
+  symmetric = s.symmetric;
+  some = omega (arith, e, s.some);
+  few = omega (arith, e, s.few);
+  inside = s.inside;
+  apart = s.apart;
+  bonds = subst (λ n. AreBonds n b.bonds) (sym e) s.bonds;
+  vectors = s.vectors;
+}

@@ -1,17 +1,22 @@
 -- A world of monomers as plain data, when it is valid, and the local move in it (Carmesin and
 -- Kremer 1988). Monomers are counted from 0.
-use Rattle.std.specs.Prelude.{◌≡◌, ℕ, ◌+◌, ◌^◌, ◌≤◌, max, Bool, true, false, not, ◌&&◌, nat_le, ℤ, pos, negsuc, nat_abs, List, [], ◌∷◌, length, slice_index_or, slice_set, remove, All, AllPairs}
+use Rattle.std.specs.Prelude.{◌≡◌, ℕ, ◌+◌, ◌^◌, ◌<◌, ◌≤◌, max, Bool, true, false, not, ◌&&◌, nat_le, ℤ, pos, negsuc, List, [], ◌∷◌, length, slice_index_or, slice_get, slice_set, remove, All, AllPairs, Option, None, Some, is_some}
 use Rattle.std.specs.List.{list_all}
 use Rattle.bfm_base.specs.declared.place.P3.{P3}
 use Rattle.bfm_base.specs.declared.place.Dir.{Dir}
 use Rattle.bfm_base.specs.declared.place.Shape.{Shape}
 use Rattle.bfm_base.specs.Direction.{step_of}
-use Rattle.bfm_geom.specs.Difference.{side_of, is_periodic, IsBox, plus, overlaps}
+use Rattle.bfm_base.specs.Place.{extent_of}
+use Rattle.bfm_geom.specs.Difference.{side_of, is_periodic, IsBox, plus, minus, wrapped, overlaps}
+use Rattle.bond_set.specs.BondSet.{IsBondSet, IsSymmetric, id_of}
+use Rattle.bfm_world.specs.Bonds.{AreBonds, neighbours_of, are_bonded}
 
--- the box, and the position of each monomer
+-- the box, the set of bond vectors with their identifiers, the position of each monomer, and the bonds
 pub record Configuration : Type 0 where
   pub shape : Shape
+  pub set : List (P3 × ℕ)
   pub positions : List P3
+  pub bonds : List (List ℕ)
 
 -- A coordinate along a walled axis leaves room for the two sites of the monomer.
 abbrev pub is_within_walls_along : Bool → ℕ → ℤ → Bool
@@ -29,18 +34,42 @@ is_within_walls shape p =
 abbrev pub is_clear : Shape → List P3 → P3 → Bool
 is_clear shape others p = list_all (λ q. not (overlaps shape q p)) others
 
--- Each monomer is within the walls, and no two overlap.
+-- the wrapped difference from p to q is a vector of the set
+abbrev pub may_bond : Shape → List (P3 × ℕ) → P3 → P3 → Bool
+may_bond shape set p q = is_some (id_of set (wrapped shape (minus q p)))
+
+-- the same where there is no second monomer yet
+abbrev pub may_reach : Shape → List (P3 × ℕ) → P3 → Option P3 → Bool
+may_reach shape set p None = true
+may_reach shape set p (Some q) = may_bond shape set p q
+
+-- from p, a bond may run to each of these monomers that has a position
+abbrev pub keeps_bonds : Shape → List (P3 × ℕ) → List P3 → List ℕ → P3 → Bool
+keeps_bonds shape set positions neighbours p = list_all (λ j. may_reach shape set p (slice_get positions j)) neighbours
+
+-- the position at a place of the list
+abbrev pub position_at : List P3 → ℕ → P3
+position_at positions i = slice_index_or positions i (record { x = pos 0; y = pos 0; z = pos 0 })
+
+-- each bond between monomers that have positions has a vector of the set
+abbrev pub HasVectors : Shape → List (P3 × ℕ) → List P3 → List (List ℕ) → Type 0
+HasVectors shape set positions bonds =
+    (i j : ℕ) → i < length positions → j < length positions → are_bonded bonds i j ≡ true → may_bond shape set (position_at positions i) (position_at positions j) ≡ true
+
+-- Each monomer is within the walls, no two overlap, and each bond has a vector of the set, which holds the
+-- negative of each of its vectors.
 pub record IsValid (w : Configuration) : Type 0 where
   pub box : IsBox w.shape
+  pub set : IsBondSet w.set
+  pub symmetric : IsSymmetric w.set
   pub some : 1 ≤ length w.positions
   pub few : length w.positions ≤ 2 ^ 18
   pub inside : All (λ p. is_within_walls w.shape p ≡ true) w.positions
   pub apart : AllPairs (λ p q. overlaps w.shape p q ≡ false) w.positions
+  pub bonds : AreBonds (length w.positions) w.bonds
+  pub vectors : HasVectors w.shape w.set w.positions w.bonds
 
--- the greatest absolute coordinate of a place, and of a list of places
-abbrev pub extent_of : P3 → ℕ
-extent_of p = max (nat_abs p.x) (max (nat_abs p.y) (nat_abs p.z))
-
+-- the greatest absolute coordinate of a list of places
 abbrev pub reach_of : List P3 → ℕ
 reach_of [] = 0
 reach_of (p ∷ ps) = max (extent_of p) (reach_of ps)
@@ -51,15 +80,18 @@ greatest_reach = 2 ^ 44 + 2 ^ 20
 
 -- where monomer i stands, and where it would stand after a step
 abbrev pub position_of : Configuration → ℕ → P3
-position_of w i = slice_index_or w.positions i (record { x = pos 0; y = pos 0; z = pos 0 })
+position_of w i = position_at w.positions i
 
 abbrev pub target_of : Configuration → ℕ → Dir → P3
 target_of w i d = plus (position_of w i) (step_of d)
 
--- A step is legal where the new place is within the walls and overlaps no other monomer.
+-- A step is legal where the new place is within the walls and overlaps no other monomer, and each bond of the
+-- monomer keeps a vector of the set.
 abbrev pub is_legal : Configuration → ℕ → Dir → Bool
 is_legal w i d =
-    is_within_walls w.shape (target_of w i d) && is_clear w.shape (remove w.positions i) (target_of w i d)
+    is_within_walls w.shape (target_of w i d)
+    && is_clear w.shape (remove w.positions i) (target_of w i d)
+    && keeps_bonds w.shape w.set w.positions (neighbours_of w.bonds i) (target_of w i d)
 
 -- the world after the step of monomer i
 abbrev pub moved : Configuration → ℕ → Dir → Configuration

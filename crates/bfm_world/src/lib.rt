@@ -1,10 +1,12 @@
-//! Valid worlds of monomers: built one monomer at a time, changed by legal local moves alone, and
-//! moved by whatever keeps the contract of an engine.
-//! It stands on `bfm_geom`. It promises that every `World` is valid in every state (no monomer
-//! beyond a wall, no two overlapping), that a builder refuses exactly what would break that, and,
-//! by the trait `Engine`, that an attempt makes its move exactly where it is legal.
+//! Valid worlds of polymers: built monomer by monomer and bond by bond, changed by legal local
+//! moves alone, and moved by whatever keeps the contract of an engine.
+//! It stands on `bfm_geom`, `bond_set` and `arrayvec`. It promises that every `World` is valid in
+//! every state (no monomer beyond a wall, no two overlapping, each bond with a vector of the set),
+//! that a builder refuses exactly what would break that, and, by the trait `Engine`, that an attempt
+//! makes its move exactly where it is legal.
 #![tactic(auto)]
 
+mod bonds;
 mod builder;
 mod engine;
 mod room;
@@ -14,5 +16,5 @@ mod world;
 
 pub use builder::WorldBuilder;
 pub use engine::Engine;
-pub use room::{is_clear, is_within_walls};
+pub use room::{is_clear, is_within_walls, keeps_bonds, may_bond};
 pub use world::World;

@@ -1,9 +1,10 @@
-ghost use Rattle.std.specs.Prelude.{◌≡◌, ◌+◌, ◌^◌, ◌≤◌, Bool, true, false};
+ghost use Rattle.std.specs.Prelude.{◌≡◌, ◌+◌, ◌^◌, ◌≤◌, Bool, true, false, slice_get, IfSome};
 ghost use Rattle.bfm_geom.specs.Difference.{IsBox, IsWithin};
-ghost use Rattle.bfm_world.specs.Configuration.{is_within_walls_along, is_within_walls, is_clear, reach_of};
+ghost use Rattle.bfm_world.specs.Configuration.{is_within_walls_along, is_within_walls, is_clear, may_bond, may_reach, keeps_bonds, reach_of};
 
 use bfm_base::{P3, Shape};
-use bfm_geom::overlap;
+use bfm_geom::{overlap, plain_difference, wrap};
+use bond_set::BondSet;
 
 fn is_within_walls_along(periodic: bool, side: u16, coordinate: i64) -> bool
     ensures { result ≡ is_within_walls_along periodic side coordinate }
@@ -36,4 +37,55 @@ pub fn is_clear(shape: &Shape, others: &[P3], p: P3) -> bool
         }
     }
     true
+}
+
+/// Whether a bond may run from one place to another: their wrapped difference is in the set.
+pub fn may_bond(shape: &Shape, set: &BondSet, p: P3, q: P3) -> bool
+    requires shape { IsBox shape.now }
+    requires from { IsWithin (2 ^ 45) p }
+    requires to { IsWithin (2 ^ 45) q }
+    ensures { result ≡ may_bond shape.now set.now p q }
+{
+    set.id_of(wrap(shape, plain_difference(p, q))).is_some()
+}
+
+/// Whether a bond may run from a place to each of these monomers that has a position.
+pub fn keeps_bonds(
+    shape: &Shape,
+    set: &BondSet,
+    positions: &[P3],
+    neighbours: &[u32],
+    p: P3,
+) -> bool
+    requires shape { IsBox shape.now }
+    requires positions { reach_of positions.now ≤ 2 ^ 45 }
+    requires place { IsWithin (2 ^ 45) p }
+    ensures { result ≡ keeps_bonds shape.now set.now positions.now neighbours.now p }
+{
+    for neighbour in neighbours {
+        if !may_reach(shape, set, p, position_in(positions, *neighbour)) {
+            return false;
+        }
+    }
+    true
+}
+
+/// The position of a monomer, where it has one.
+pub(crate) fn position_in(positions: &[P3], i: u32) -> Option<P3>
+    ensures { result ≡ slice_get positions.now i }
+{
+    positions.get(i as usize).copied()
+}
+
+/// Whether a bond may run from a place to another, where there is another.
+pub(crate) fn may_reach(shape: &Shape, set: &BondSet, p: P3, q: Option<P3>) -> bool
+    requires shape { IsBox shape.now }
+    requires from { IsWithin (2 ^ 45) p }
+    requires to { IfSome q (IsWithin (2 ^ 45)) }
+    ensures { result ≡ may_reach shape.now set.now p q }
+{
+    match q {
+        Some(q) => may_bond(shape, set, p, q),
+        None => true,
+    }
 }

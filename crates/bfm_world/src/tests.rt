@@ -1,5 +1,10 @@
+ghost use Rattle.std.specs.Prelude.{◌≡◌, ◌^◌, ◌≤◌, [], IfOk};
+
 use crate::WorldBuilder;
 use bfm_base::{Cause, Dir, P3, Shape};
+use bond_set::BondSet;
+use std::alloc::{AllocError, Global};
+use std::process::Abort;
 use std::test::Fail;
 
 // A box of side 8 whose y axis is walled.
@@ -8,9 +13,27 @@ const BOX: Shape = Shape {
     periodic: [true, false, true],
 };
 
+fn at(place: [i64; 3]) -> P3 {
+    let [x, y, z] = place;
+    P3 { x, y, z }
+}
+
+// Begins a world of `n` monomers in that box, with the usual set.
+fn begun(alloc: Global, n: u32) -> Result<WorldBuilder, AllocError>
+    requires some { 1 ≤ n }
+    requires few { n ≤ 2 ^ 18 }
+    ensures count { IfOk result (λ builder. builder.count ≡ n) }
+    ensures empty { IfOk result (λ builder. builder.positions ≡ []) }
+{
+    let set = BondSet::usual(alloc)?;
+    WorldBuilder::new(alloc, BOX, set, n)
+}
+
 #[test]
 fn places_are_refused_beyond_walls_and_where_monomers_overlap(rt: HostRuntime) -> Result<(), Fail> {
-    let mut builder = WorldBuilder::new(rt.alloc(), BOX, 3)?;
+    let set = BondSet::new(rt.alloc());
+    assert!(rt; set.finish().is_ok());
+    let mut builder = WorldBuilder::new(rt.alloc(), BOX, set, 3)?;
     assert!(rt; builder.place(P3 { x: 0, y: 3, z: 0 }).is_ok());
     // Through the boundary: 7 and 0 differ by 1 around a side of 8.
     let overlap = builder.place(P3 { x: 7, y: 4, z: -16 });
@@ -22,9 +45,146 @@ fn places_are_refused_beyond_walls_and_where_monomers_overlap(rt: HostRuntime) -
     Ok(())
 }
 
+// What placing a monomer that is bonded to one at (0, 6, 0) answers: the least cause, which in most
+// rows is not the only one. A difference is wrapped along x and z alone.
+#[rattlefmt::skip]
+const PLACES: [([i64; 3], Result<(), Cause>); 10] = [
+    ([0, 7, 0], Err(Cause::Outside)),
+    ([0, -1, 0], Err(Cause::Outside)),
+    ([1, 6, -1], Err(Cause::Overlap)),
+    ([9, 5, 0], Err(Cause::Overlap)),
+    ([4, 6, 0], Err(Cause::BadBond)),
+    ([2, 4, 0], Err(Cause::BadBond)),
+    ([0, 0, 0], Err(Cause::BadBond)),
+    ([0, 4, 0], Ok(())),
+    ([6, 6, 0], Ok(())),
+    ([-3, 5, 16], Ok(())),
+];
+
 #[test]
-fn a_shift_moves_one_monomer(rt: HostRuntime) -> Result<(), Fail> {
-    let mut builder = WorldBuilder::new(rt.alloc(), BOX, 1)?;
+fn a_place_has_a_vector_of_the_set_for_each_bond(rt: HostRuntime) -> Result<(), Fail> {
+    for (place, answer) in PLACES {
+        let mut builder = begun(rt.alloc(), 2)?;
+        assert!(rt; builder.join(0, 1) == Ok(true));
+        assert!(rt; builder.place(P3 { x: 0, y: 6, z: 0 }).is_ok());
+        let p = at(place);
+        assert!(rt; p.extent() <= 16);
+        assert!(rt; builder.place(p) == answer, "at {p:?}");
+    }
+    Ok(())
+}
+
+// What joining two of ten monomers answers, where none is placed, and 0 and 1 are bonded to each
+// other and to each of 2 to 8.
+#[rattlefmt::skip]
+const JOINED: [(u32, u32, Result<bool, Cause>); 10] = [
+    (0, 0, Err(Cause::BadMonomer)),
+    (0, 10, Err(Cause::BadMonomer)),
+    (10, 9, Err(Cause::BadMonomer)),
+    (10, 10, Err(Cause::BadMonomer)),
+    (0, 1, Ok(false)),
+    (1, 0, Ok(false)),
+    (8, 1, Ok(false)),
+    (0, 9, Err(Cause::TooManyBonds)),
+    (9, 1, Err(Cause::TooManyBonds)),
+    (9, 8, Ok(true)),
+];
+
+#[test]
+fn a_monomer_takes_eight_bonds(rt: HostRuntime) -> Result<(), Fail> {
+    let mut builder = begun(rt.alloc(), 10)?;
+    for j in 1..=8 {
+        assert!(rt; builder.join(0, j) == Ok(true));
+    }
+    for j in 2..=8 {
+        assert!(rt; builder.join(1, j) == Ok(true));
+    }
+    for (i, j, answer) in JOINED {
+        assert!(rt; builder.join(i, j) == answer, "at {i} and {j}");
+    }
+    assert!(rt; builder.count() == 10);
+    assert!(rt; builder.bonded(8, 9) && builder.bonded(9, 8) && !builder.bonded(0, 9));
+    assert!(rt; builder.neighbours(8) == [0, 1, 9].as_slice());
+    Ok(())
+}
+
+// What joining two of twelve monomers answers, where 0 to 3 are placed at (0, 0, 0), (4, 0, 0),
+// (0, 6, 0) and (10, 0, 0), and 0 is bonded to each of 4 to 11.
+#[rattlefmt::skip]
+const JOINED_IN_PLACE: [(u32, u32, Result<bool, Cause>); 9] = [
+    (0, 1, Err(Cause::BadBond)),
+    (1, 0, Err(Cause::BadBond)),
+    (0, 2, Err(Cause::BadBond)),
+    (0, 3, Err(Cause::TooManyBonds)),
+    (3, 0, Err(Cause::TooManyBonds)),
+    (11, 0, Ok(false)),
+    (1, 3, Ok(true)),
+    (3, 1, Ok(false)),
+    (4, 2, Ok(true)),
+];
+
+#[test]
+fn a_bond_between_places_has_a_vector_of_the_set(rt: HostRuntime) -> Result<(), Fail> {
+    let mut builder = begun(rt.alloc(), 12)?;
+    assert!(rt; builder.place(P3 { x: 0, y: 0, z: 0 }).is_ok());
+    assert!(rt; builder.place(P3 { x: 4, y: 0, z: 0 }).is_ok());
+    assert!(rt; builder.place(P3 { x: 0, y: 6, z: 0 }).is_ok());
+    assert!(rt; builder.place(P3 { x: 10, y: 0, z: 0 }).is_ok());
+    for j in 4..=11 {
+        assert!(rt; builder.join(0, j) == Ok(true));
+    }
+    for (i, j, answer) in JOINED_IN_PLACE {
+        assert!(rt; builder.join(i, j) == answer, "at {i} and {j}");
+    }
+    Ok(())
+}
+
+// Whether a monomer that is bonded to those at (0, 0, 0) and (2, 2, 1) may stand at a place, as far
+// as its bonds go.
+#[rattlefmt::skip]
+const KEPT: [([i64; 3], bool); 6] = [
+    ([3, 0, 0], true),
+    ([4, 0, 0], false),
+    ([2, -1, 0], true),
+    ([-2, 0, 0], false),
+    ([10, 0, 0], true),
+    ([2, 8, 0], false),
+];
+
+// Begins a world of three monomers in a chain.
+fn chained(rt: &impl Abort, alloc: Global) -> Result<WorldBuilder, AllocError>
+    ensures count { IfOk result (λ builder. builder.count ≡ 3) }
+    ensures empty { IfOk result (λ builder. builder.positions ≡ []) }
+{
+    let mut builder = begun(alloc, 3)?;
+    assert!(rt; builder.join(1, 2) == Ok(true));
+    assert!(rt; builder.join(0, 1) == Ok(true));
+    Ok(builder)
+}
+
+#[test]
+fn a_world_knows_its_bonds(rt: HostRuntime) -> Result<(), Fail> {
+    let mut builder = chained(&rt, rt.alloc())?;
+    assert!(rt; builder.place(P3 { x: 0, y: 0, z: 0 }).is_ok());
+    assert!(rt; builder.place(P3 { x: 2, y: 0, z: 0 }).is_ok());
+    assert!(rt; builder.place(P3 { x: 2, y: 2, z: 1 }).is_ok());
+    let world = builder.finish();
+    assert_eq!(rt; world.len(), 3);
+    assert!(rt; world.neighbours(0) == [1].as_slice());
+    assert!(rt; world.neighbours(1) == [0, 2].as_slice());
+    assert!(rt; world.bonded(0, 1) && world.bonded(1, 0) && !world.bonded(0, 2));
+    for (place, kept) in KEPT {
+        let p = at(place);
+        assert!(rt; p.extent() <= 16);
+        assert_eq!(rt; world.keeps_bonds(1, p), kept, "at {p:?}");
+    }
+    assert_eq!(rt; world.set().len(), 108);
+    Ok(())
+}
+
+#[test]
+fn a_world_tells_positions_and_targets(rt: HostRuntime) -> Result<(), Fail> {
+    let mut builder = begun(rt.alloc(), 1)?;
     assert!(rt; builder.place(P3 { x: 7, y: 3, z: -20 }).is_ok());
     let world = builder.finish();
     assert_eq!(rt; world.len(), 1);

@@ -7,8 +7,9 @@
 mod tests;
 
 ghost use Rattle.std.specs.Prelude.{◌≡◌, ◌+◌, ◌<◌, ◌≤◌, length, remove};
+ghost use Rattle.bfm_base.specs.Place.{extent_of};
 ghost use Rattle.bfm_geom.specs.Difference.{IsBox};
-ghost use Rattle.bfm_world.specs.Configuration.{is_legal, is_clear, reach_of, extent_of, greatest_reach};
+ghost use Rattle.bfm_world.specs.Configuration.{is_legal, is_clear, reach_of, greatest_reach};
 
 use bfm_base::{Dir, P3, Shape};
 use bfm_world::{Engine, World, is_clear, is_within_walls};
@@ -61,7 +62,8 @@ impl Engine for PlainEngine {
     }
 }
 
-/// Whether the step is legal: within the walls, and clear of each other monomer.
+/// Whether the step is legal: within the walls, clear of each other monomer, and with a vector of
+/// the set for each bond.
 fn may_step(world: &World, monomer: u32, dir: Dir) -> bool
     requires { monomer < length world.now.positions }
     ensures { result ≡ is_legal world.now monomer dir }
@@ -70,6 +72,7 @@ fn may_step(world: &World, monomer: u32, dir: Dir) -> bool
     let target = world.target(monomer, dir);
     is_within_walls(&shape, target)
         && is_clear_of_others(&shape, world.positions(), monomer as usize, target)
+        && world.keeps_bonds(monomer, target)
 }
 
 /// Whether a place is clear of all monomers but one.

@@ -1,6 +1,13 @@
+ghost use Rattle.std.specs.Prelude.{◌≡◌, ◌≤◌, length, IfOk};
+ghost use Rattle.bond_set.specs.BondSet.{IsBondSet, IsSymmetric};
+ghost use Rattle.bfm_world.specs.Configuration.{reach_of};
+
 use crate::PlainEngine;
 use bfm_base::{Dir, P3, Shape};
 use bfm_world::{Engine, WorldBuilder};
+use bond_set::BondSet;
+use std::alloc::{AllocError, Global};
+use std::process::Abort;
 use std::test::Fail;
 
 #[test]
@@ -9,7 +16,8 @@ fn legal_steps_are_made_and_others_are_not(rt: HostRuntime) -> Result<(), Fail> 
         sides: [8, 8, 8],
         periodic: [true, true, false],
     };
-    let mut builder = WorldBuilder::new(rt.alloc(), shape, 2)?;
+    let set = BondSet::usual(rt.alloc())?;
+    let mut builder = WorldBuilder::new(rt.alloc(), shape, set, 2)?;
     assert!(rt; builder.place(P3 { x: 0, y: 0, z: 0 }).is_ok());
     assert!(rt; builder.place(P3 { x: 0, y: 6, z: 0 }).is_ok());
     let mut engine = PlainEngine::new(builder.finish());
@@ -20,5 +28,51 @@ fn legal_steps_are_made_and_others_are_not(rt: HostRuntime) -> Result<(), Fail> 
     assert!(rt; engine.attempt(1, Dir::ZUp, 0));
     assert_eq!(rt; engine.world().position(1), P3 { x: 0, y: 6, z: 1 });
     assert_eq!(rt; engine.into_world().position(0), P3 { x: 0, y: 0, z: 0 });
+    Ok(())
+}
+
+// An engine over two bonded monomers at (0, 0, 0) and (2, 0, 0).
+fn paired(rt: &impl Abort, alloc: Global, set: BondSet) -> Result<PlainEngine, AllocError>
+    requires set { IsBondSet set }
+    requires finished { IsSymmetric set }
+    ensures count { IfOk result (λ engine. length engine.positions ≡ 2) }
+    ensures reach { IfOk result (λ engine. reach_of engine.positions ≤ 2) }
+{
+    let shape = Shape {
+        sides: [8, 8, 8],
+        periodic: [true, true, true],
+    };
+    let mut builder = WorldBuilder::new(alloc, shape, set, 2)?;
+    assert!(rt; builder.join(0, 1) == Ok(true));
+    assert!(rt; builder.place(P3 { x: 0, y: 0, z: 0 }).is_ok());
+    assert!(rt; builder.place(P3 { x: 2, y: 0, z: 0 }).is_ok());
+    let world = builder.finish();
+    assert_eq!(rt; world.len(), 2);
+    assert_eq!(rt; world.reach(), 2);
+    Ok(PlainEngine::new(world))
+}
+
+#[test]
+fn a_step_keeps_a_vector_of_the_set_for_each_bond(rt: HostRuntime) -> Result<(), Fail> {
+    let mut set = BondSet::new(rt.alloc());
+    set.add(P3 { x: 2, y: 0, z: 0 }, 32)?;
+    set.add(P3 { x: -2, y: 0, z: 0 }, 33)?;
+    assert!(rt; set.finish().is_ok());
+    let mut engine = paired(&rt, rt.alloc(), set)?;
+    assert!(rt; !engine.attempt(1, Dir::YUp, 0));
+    assert_eq!(rt; engine.world().position(1), P3 { x: 2, y: 0, z: 0 });
+    Ok(())
+}
+
+#[test]
+fn a_bond_stretches_as_far_as_the_set_goes(rt: HostRuntime) -> Result<(), Fail> {
+    let set = BondSet::usual(rt.alloc())?;
+    let mut engine = paired(&rt, rt.alloc(), set)?;
+    assert!(rt; engine.attempt(1, Dir::XUp, 0));
+    assert_eq!(rt; engine.world().len(), 2);
+    assert_eq!(rt; engine.world().reach(), 3);
+    assert!(rt; !engine.attempt(1, Dir::XUp, 0));
+    assert!(rt; engine.world().len() == 2);
+    assert_eq!(rt; engine.world().position(1), P3 { x: 3, y: 0, z: 0 });
     Ok(())
 }

@@ -1,0 +1,12 @@
+use Rattle.std.proofs.Common.{rules, arith, ◌≡◌, []}
+use Rattle.bfm_world.proofs.ValidLemmas.{IsSound-begun}
+use Rattle.bfm_world.proofs.builder.WorldBuilder.new.Goals as goal
+
+pub invariant_of-result : goal.invariant_of-result
+invariant_of-result c =
+    let empty : c.in_ok-with_capacity.field-0.items ≡ [] = search rules in
+    rw (empty, c.in_ok-new.ensures) (
+      IsSound-begun c.args.shape c.args.set c.args.n c.requires.shape c.requires.set c.requires.finished c.requires.some c.requires.few,
+      omega arith,
+      search rules,
+    )
