@@ -1,0 +1,11 @@
+pub mod BeginLemmas
+pub mod CommandLemmas
+pub mod EntryLemmas
+pub mod FrameLemmas
+pub mod HeaderLemmas
+pub mod LineLemmas
+pub mod NumberLemmas
+pub mod PairLemmas
+pub mod ReadLemmas
+pub mod TakeLemmas
+pub mod WalkLemmas

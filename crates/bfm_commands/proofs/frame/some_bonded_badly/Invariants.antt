@@ -1,0 +1,7 @@
+use Rattle.std.proofs.Common.{◌≡◌, ◌<◌, ◌≤◌, ℕ, true}
+use Rattle.bfm_commands.specs.Causes.{is_bonded_well}
+use Rattle.bfm_commands.proofs.FrameLemmas.{passes_at}
+use Rattle.bfm_commands.proofs.frame.some_bonded_badly.Given as goal
+
+abbrev pub invariant-loop-k : goal.invariant-loop-k
+invariant-loop-k l = (j : ℕ) → l.begun ≤ j → j < l.k → passes_at (is_bonded_well l.builder) l.positions j ≡ true
