@@ -1,10 +1,11 @@
 -- The settings of a run, word after word.
-use Rattle.std.proofs.Common.{◌≡◌, ℕ, ◌+◌, ◌<◌, ◌≤◌, true, false, cond, List, [], ◌∷◌, length, drop, map, refl, Result, Ok, Err, IfOk, Option, None, Some, is_some, ◌⊎◌, inl, inr, suc, get_or, drop-cons, add-one, ap, ◌∙◌, sym, arith}
-use Rattle.bfm_cli.specs.Numbers.{Setting, given}
+use Rattle.std.proofs.Common.{◌≡◌, ℕ, ◌+◌, ◌<◌, ◌≤◌, Bool, true, false, cond, List, [], ◌∷◌, length, drop, map, refl, Result, Ok, Err, IfOk, Option, None, Some, is_some, ◌&&◌, nat_le, ◌⊎◌, inl, inr, suc, get_or, drop-cons, add-one, ap, ◌∙◌, sym, arith}
+use Rattle.bfm_commands.specs.Numbers.{Setting, within, number_within, given, is_named, split_once}
 use Rattle.bfm_cli.specs.Job.{IsInRange, settled, is_right, AreGiven, setting_of, order_of, run_of, seed_key, frames_key, every_key}
 use Rattle.bfm_cli.specs.declared.job.Job.TheVariants.{Run}
 use Rattle.bfm_cli.specs.declared.job.RunOrder.{RunOrder}
-use Rattle.bfm_cli.proofs.CommandLemmas.{given-range}
+use Rattle.std.proofs.lemmas.Bool.Decides.{nat_tests}
+use Rattle.std.specs.Str.{bytes_eq}
 use Rattle.std.proofs.lemmas.List.{drop-map, drop_all}
 use Rattle.bfm_cli.specs.declared.job.Job.{Job}
 use Rattle.bfm_cli.specs.declared.job.Settings.{Settings}
@@ -43,6 +44,32 @@ HasTaken-wrong s words i word e h wrong =
 -- all words are taken
 pub HasTaken-all : (s : Settings) (words : List (List ℕ)) (i : ℕ) → length words ≤ i → (h : HasTaken s words i) → settled [] words ≡ Ok h.before
 HasTaken-all s words i l h = sym h.rest ∙ ap (settled h.before) (drop_all i words l)
+
+-- a choice that gave a value
+cond_some : {A : Type 0} (b : Bool) (o : Option A) (v : A) → cond b o None ≡ Some v → (b ≡ true) × (o ≡ Some v)
+cond_some true o v e = (refl, e)
+cond_some false o v e = absurd (cc)
+
+within-both : (least greatest n : ℕ) → (nat_le least n && nat_le n greatest) ≡ true → (least ≤ n) × (n ≤ greatest)
+within-both least greatest n e = (grind (arith, nat_tests), grind (arith, nat_tests))
+
+within-range : (least greatest : ℕ) (o : Option ℕ) (v : ℕ) → within least greatest o ≡ Some v → (least ≤ v) × (v ≤ greatest)
+within-range least greatest None v e = absurd (cc)
+within-range least greatest (Some n) v e =
+    let c = cond_some (nat_le least n && nat_le n greatest) (Some n) v e in
+    let same : n ≡ v = (let q : Some n ≡ Some v = c.1 in cc) in
+    let both : (least ≤ n) × (n ≤ greatest) = within-both least greatest n c.0 in
+    (omega (arith, both.0), omega (arith, both.1))
+
+is_named-range : (s : Setting) (parts : Option (List ℕ × List ℕ)) (v : ℕ) → is_named s parts ≡ Some v → (s.least ≤ v) × (v ≤ s.greatest)
+is_named-range s None v e = absurd (cc)
+is_named-range s (Some parts) v e =
+    let c = cond_some (bytes_eq parts.0 s.name) (number_within s.least s.greatest parts.1) v e in
+    within-range s.least s.greatest _ v c.1
+
+-- what is given is in the range of its setting
+given-range : (s : Setting) (text : List ℕ) (v : ℕ) → given s text ≡ Some v → (s.least ≤ v) × (v ≤ s.greatest)
+given-range s text v e = is_named-range s (split_once 61 text) v e
 
 -- what words give a key is in its range
 either_some : (o r : Option ℕ) (v : ℕ) → cond (is_some o) o r ≡ Some v → (o ≡ Some v) ⊎ (r ≡ Some v)

@@ -1,9 +1,4 @@
-pub mod CommandLemmas
 pub mod JobLemmas
-pub mod LineLemmas
-pub mod NumberLemmas
-pub mod PositionLemmas
-pub mod ReadLemmas
 pub mod SweepLemmas
 pub mod TextLemmas
 pub mod ToolLemmas

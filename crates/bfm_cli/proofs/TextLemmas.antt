@@ -1,28 +1,16 @@
 -- Texts written in pieces.
-use Rattle.std.proofs.Common.{◌≡◌, ℕ, ◌+◌, ◌<◌, List, [], ◌∷◌, ◌++◌, length, take, drop, get_or, ap, sym, ◌∙◌, append_assoc, append-nil, zero, suc, ◌-◌, ◌*◌, ◌≤◌, zero-add, suc-add, arith}
+use Rattle.std.proofs.Common.{◌≡◌, ℕ, ◌+◌, List, [], ◌++◌, ap, sym, ◌∙◌, append_assoc, append-nil, zero, suc, ◌-◌, ◌*◌, ◌≤◌, zero-add, suc-add, arith}
 use Rattle.bfm_world.specs.Configuration.{Configuration}
 use Rattle.bfm_cli.specs.Sweep.{Progress, after_sweeps}
-use Rattle.bfm_cli.specs.Text.{group_text, groups_text}
-use Rattle.std.specs.List.{flat_map}
-use Rattle.std.proofs.lemmas.List.{take_more, take-append-drop}
-use Rattle.std.proofs.lemmas.Grind.{flat_map-append}
-
--- the pieces before one, that one, and those after it
-pub flat_map-around : {X : Type 0} (f : X → List ℕ) (xs : List X) (i : ℕ) (d : X) → i < length xs
-    → flat_map f xs ≡ (flat_map f (take i xs) ++ f (get_or xs i d)) ++ flat_map f (drop (i + 1) xs)
-flat_map-around f xs i d h =
-    let whole : flat_map f xs ≡ flat_map f (take (i + 1) xs) ++ flat_map f (drop (i + 1) xs) =
-    ap (flat_map f) (sym (take-append-drop (i + 1) xs)) ∙ flat_map-append f (take (i + 1) xs) (drop (i + 1) xs) in
-    let more : flat_map f (take (i + 1) xs) ≡ flat_map f (take i xs) ++ f (get_or xs i d) =
-    ap (flat_map f) (take_more xs i d h) ∙ (flat_map-append f (take i xs) (get_or xs i d ∷ []) ∙ ap (λ l. flat_map f (take i xs) ++ l) (append-nil (f (get_or xs i d)))) in
-    whole ∙ ap (λ l. l ++ flat_map f (drop (i + 1) xs)) more
+use Rattle.bfm_writer.specs.Text.{group_text}
+use Rattle.bfm_cli.specs.Text.{groups_text}
 
 -- the groups of a run begin with those of a shorter one
 groups_text-add : (seed every mcs a d : ℕ) (start : Progress) → (more : List ℕ) × (groups_text seed every mcs (d + a) start ≡ groups_text seed every mcs a start ++ more)
 groups_text-add seed every mcs a zero start = ([], ap (λ n. groups_text seed every mcs n start) (zero-add a) ∙ sym (append-nil (groups_text seed every mcs a start)))
 groups_text-add seed every mcs a (suc d) start =
     let h = groups_text-add seed every mcs a d start in
-    let last = group_text (after_sweeps seed mcs (suc (d + a) * every) start).world (mcs + suc (d + a) * every) in
+    let last = group_text (after_sweeps seed mcs (suc (d + a) * every) start).world (mcs + suc (d + a) * every) [] in
     (h.0 ++ last, ap (λ n. groups_text seed every mcs n start) (suc-add d a) ∙ (ap (λ l. l ++ last) h.1 ∙ append_assoc (groups_text seed every mcs a start) h.0 last))
 
 pub groups_text-front : (seed every mcs a frames : ℕ) (start : Progress) → a ≤ frames → (more : List ℕ) × (groups_text seed every mcs frames start ≡ groups_text seed every mcs a start ++ more)
@@ -33,8 +21,8 @@ groups_text-front seed every mcs a frames start l =
 
 -- one more group
 pub groups_text-more : (seed every mcs frame : ℕ) (start now : Progress) (w : Configuration) → now ≡ after_sweeps seed mcs (suc frame * every) start → w ≡ now.world
-    → groups_text seed every mcs frame start ++ group_text w (mcs + frame * every + every) ≡ groups_text seed every mcs (suc frame) start
+    → groups_text seed every mcs frame start ++ group_text w (mcs + frame * every + every) [] ≡ groups_text seed every mcs (suc frame) start
 groups_text-more seed every mcs frame start now w e f =
     let time : mcs + frame * every + every ≡ mcs + suc frame * every = omega arith in
-    ap (λ m. groups_text seed every mcs frame start ++ group_text w m) time
-    ∙ ap (λ v. groups_text seed every mcs frame start ++ group_text v (mcs + suc frame * every)) (f ∙ ap (λ (r : Progress). r.world) e)
+    ap (λ m. groups_text seed every mcs frame start ++ group_text w m []) time
+    ∙ ap (λ v. groups_text seed every mcs frame start ++ group_text v (mcs + suc frame * every) []) (f ∙ ap (λ (r : Progress). r.world) e)

@@ -1,12 +1,10 @@
 -- How the work of the program ends, and what is then said of its input and its output.
-use Rattle.std.specs.Prelude.{◌≡◌, ℕ, List, [], ◌∷◌, Option, take, codes, decimal}
+use Rattle.std.specs.Prelude.{◌≡◌, ℕ, List, [], ◌∷◌, Option, codes, decimal}
 use Rattle.std.specs.List.{concat}
 use Rattle.bfm_base.specs.Cause.{number_of, name_of}
 use Rattle.bfm_base.specs.Faults.{TookAll, TookFront}
 use Rattle.bfm_cli.specs.Text.{report_line}
 use Rattle.bfm_cli.specs.Outcome.{Outcome, input_limit}
-use Rattle.bfm_cli.specs.File.{Accepted}
-use Rattle.bfm_cli.specs.declared.file.File.{File}
 use Rattle.bfm_cli.specs.declared.ending.Ending.{Ending}
 use Rattle.bfm_cli.specs.declared.ending.Ending.TheVariants as ends
 use Rattle.bfm_cli.specs.declared.status.Status.{Status}
@@ -41,7 +39,7 @@ report_of (ends.Done done) =
     report_line (codes "kept") done.kept
     ∷ report_line (codes "frames") done.frames
     ∷ report_line (codes "mcs") done.mcs
-    ∷ report_line (codes "skipped") 0
+    ∷ report_line (codes "skipped") done.skipped
     ∷ report_line (codes "accepted") done.accepted
     ∷ report_line (codes "links") 0
     ∷ []
@@ -88,7 +86,3 @@ WritesNothing ends.ReadFault = Unit {0}
 WritesNothing ends.Memory = Unit {0}
 WritesNothing ends.TooLong = Unit {0}
 WritesNothing (ends.TooFar mcs reach) = Unit {0}
-
--- what a file that was read gives, of these bytes
-abbrev pub accepted_by : File → List ℕ → Accepted
-accepted_by file bytes = record { configuration = file.world; mcs = file.mcs; kept = take file.kept bytes }

@@ -1,7 +1,7 @@
 -- The job that a list of words asks for.
 use Rattle.std.specs.Prelude.{◌≡◌, ◌≤◌, ℕ, ◌+◌, ◌-◌, ◌^◌, Bool, ◌&&◌, ◌||◌, List, [], ◌∷◌, length, codes, Option, None, Some, is_some, is_none, Result, Ok, Err, if◌then◌else◌}
 use Rattle.std.specs.Str.{bytes_eq}
-use Rattle.bfm_cli.specs.Numbers.{Setting, given}
+use Rattle.bfm_commands.specs.Numbers.{Setting, given}
 use Rattle.bfm_cli.specs.declared.job.Job.{Job}
 use Rattle.bfm_cli.specs.declared.job.Job.TheVariants.{Run}
 use Rattle.bfm_cli.specs.declared.job.Settings.{Settings}

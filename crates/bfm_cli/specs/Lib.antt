@@ -1,11 +1,7 @@
 pub mod Ending
-pub mod File
 pub mod Job
-pub mod Lines
-pub mod Numbers
 pub mod Outcome
 pub mod Promise
 pub mod RandomWords
-pub mod Reading
 pub mod Sweep
 pub mod Text

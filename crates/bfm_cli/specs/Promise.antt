@@ -2,7 +2,8 @@
 use Rattle.std.specs.Prelude.{ℕ, List, Option, codes, Result, Ok, Err}
 use Rattle.bfm_base.specs.declared.cause.Refused.{Refused}
 use Rattle.bfm_world.specs.Configuration.{IsValid}
-use Rattle.bfm_cli.specs.File.{Accepted, verdict_of}
+use Rattle.bfm_commands.specs.Verdict.{verdict_of}
+use Rattle.bfm_commands.specs.declared.loaded.Loaded.{Loaded}
 use Rattle.bfm_cli.specs.Sweep.{state_at, begun_with}
 use Rattle.bfm_cli.specs.Outcome.{Outcome}
 use Rattle.bfm_cli.specs.declared.job.Job.{Job}
@@ -14,11 +15,11 @@ use Rattle.bfm_cli.specs.declared.status.Status.{Status}
 use Rattle.bfm_cli.specs.declared.status.Status.TheVariants as statuses
 
 -- Each state of a run of an accepted file, between its sweeps and within them, is a valid configuration: all
--- monomers are within the walls, and no two overlap.
-abbrev pub HasValidStates : RunOrder → Result Accepted Refused → Type 0
+-- monomers are within the walls, no two overlap, and each bond has a vector of the set.
+abbrev pub HasValidStates : RunOrder → Result Loaded Refused → Type 0
 HasValidStates order (Err refused) = Unit {0}
-HasValidStates order (Ok file) =
-    (count a : ℕ) → IsValid (state_at order.seed file.mcs count a (begun_with file.configuration)).world
+HasValidStates order (Ok loaded) =
+    (count a : ℕ) → IsValid (state_at order.seed loaded.mcs count a (begun_with loaded.world)).world
 
 abbrev pub HasValidRun : Result Job ℕ → List ℕ → Type 0
 HasValidRun (Err place) bytes = Unit {0}

@@ -10,6 +10,8 @@ pub struct RunDone {
     pub frames: u64,
     /// The last time, in sweeps.
     pub mcs: u64,
+    /// The number of commands that were skipped.
+    pub skipped: u64,
     /// The number of moves that were made.
     pub accepted: u64,
 }

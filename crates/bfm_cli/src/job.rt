@@ -1,7 +1,7 @@
 ghost use Rattle.std.specs.Prelude.{◌≡◌, ◌+◌, [], ◌∷◌, ◌&&◌, List, ℕ, map, length, is_some, is_none, IfOk, IsTrue, string_bytes, if◌then◌else◌};
 ghost use Rattle.bfm_cli.specs.Job.{job_of, run_of, settled, IsInRange};
 
-use crate::numbers::given;
+use bfm_commands::given;
 
 /// What a run is asked for.
 #[derive(Clone, Copy, Debug, PartialEq, Eq)]

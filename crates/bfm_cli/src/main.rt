@@ -1,24 +1,21 @@
-//! The program `bfm_cli`: runs free monomers in the bond fluctuation model, from a file on standard
-//! input to a file on standard output, and reports on standard error.
-//! It stands on `bfm_base` for the outside world, on `bfm_lexer` for lines and numbers, on
-//! `bfm_world` for the configuration and on `plain_move` for the moves.
+//! The program `bfm_cli`: runs polymers in the bond fluctuation model, from a file on standard input
+//! to a file on standard output, and reports on standard error.
+//! It stands on `bfm_base` for the outside world, on `bfm_commands` for the reading of files and on
+//! `bfm_writer` for their writing, on `bfm_world` for the configuration and on `plain_move` for the
+//! moves.
 //! It promises in `run_tool` that the output is the kept part of the input and the groups of the
 //! run that words and input ask for, and says when each status comes.
 #![tactic(auto)]
 
 mod ending;
-mod file;
 mod input;
 mod job;
-mod lines;
-mod numbers;
 mod report;
 mod run;
 mod status;
 mod sweep;
 #[cfg(test)]
 mod tests;
-mod text;
 mod tool;
 mod words;
 

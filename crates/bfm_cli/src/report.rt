@@ -1,12 +1,13 @@
 ghost use Rattle.std.specs.Prelude.{◌≡◌, ◌≢◌, ◌⊎◌, OnOk, OnErr};
+ghost use Rattle.std.specs.List.{flat_map};
 ghost use Rattle.bfm_base.specs.Faults.{TookAll, TookFront};
 ghost use Rattle.bfm_cli.specs.Ending.{report_of, status_of};
+ghost use Rattle.bfm_cli.specs.Text.{report_line};
 ghost use Rattle.bfm_cli.specs.declared.ending.Ending.TheVariants as ends;
 
 use crate::ending::{Ending, RunDone};
 use crate::status::Status;
-use crate::text::{report_lines, send_all};
-use bfm_base::{Failed, Refused, Sink, send};
+use bfm_base::{Failed, Refused, Sink, send, send_all};
 use itoa::Buffer;
 
 /// How many bytes of input are read at most.
@@ -64,7 +65,7 @@ fn write_done<P: Sink>(done: &RunDone, report: &mut P) -> Result<(), Failed>
             (b"kept", done.kept),
             (b"frames", done.frames),
             (b"mcs", done.mcs),
-            (b"skipped", 0),
+            (b"skipped", done.skipped),
             (b"accepted", done.accepted),
             (b"links", 0),
         ],
@@ -93,4 +94,24 @@ fn write_far<P: Sink>(mcs: u128, reach: u128, report: &mut P) -> Result<(), Fail
     let last = last.format(mcs).as_bytes();
     let far = far.format(reach).as_bytes();
     send_all(report, &[b"far ", last, b" ", far, b"\n"])
+}
+
+/// Writes the lines of a report, each a name and a number.
+fn report_lines<S: Sink>(sink: &mut S, lines: &[(&[u8], u64)]) -> Result<(), Failed>
+    ensures ok { OnOk result (TookAll (S.taken sink.old) (S.taken sink.new) (S.faults sink.old) (S.faults sink.new) (flat_map (λ line. report_line line.0.now line.1) lines.now)) }
+    ensures failed { OnErr result (TookFront (S.taken sink.old) (S.taken sink.new) (S.faults sink.old) (S.faults sink.new) (flat_map (λ line. report_line line.0.now line.1) lines.now)) }
+{
+    for (name, n) in lines {
+        report_line(sink, name, *n)?;
+    }
+    Ok(())
+}
+
+/// Writes a line of a report: a name and a number.
+fn report_line<S: Sink>(sink: &mut S, name: &[u8], n: u64) -> Result<(), Failed>
+    ensures ok { OnOk result (TookAll (S.taken sink.old) (S.taken sink.new) (S.faults sink.old) (S.faults sink.new) (report_line name.now n)) }
+    ensures failed { OnErr result (TookFront (S.taken sink.old) (S.taken sink.new) (S.faults sink.old) (S.faults sink.new) (report_line name.now n)) }
+{
+    let mut number = Buffer::new();
+    send_all(sink, &[name, b" ", number.format(n).as_bytes(), b"\n"])
 }

@@ -6,9 +6,9 @@ ghost use Rattle.bfm_cli.specs.Text.{groups_text};
 
 use crate::job::RunOrder;
 use crate::sweep::sweeps;
-use crate::text::group;
 use bfm_base::{Failed, Sink, send};
 use bfm_world::{Engine, World};
+use bfm_writer::group;
 use plain_move::PlainEngine;
 
 /// Runs a world from the time `mcs` on. Writes what is kept of the input, and then a group after
@@ -55,7 +55,7 @@ fn groups<E: Engine, O: Sink>(
     for frame in 0..order.frames {
         let first = mcs + frame * order.every;
         accepted += sweeps(engine, order.seed, first, order.every);
-        group(output, engine.world(), first + order.every)?;
+        group(engine.world(), first + order.every, &[], output)?;
     }
     Ok(accepted)
 }

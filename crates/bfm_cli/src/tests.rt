@@ -3,6 +3,7 @@ ghost use Rattle.std.specs.Prelude.{◌<◌};
 use crate::status::Status;
 use crate::tool::run_tool;
 use bfm_base::{MemSink, MemSource, Source};
+use bond_set::BondSet;
 use std::alloc::{AllocError, Global};
 use std::test::Fail;
 
@@ -59,7 +60,7 @@ fn answer_to(alloc: Global, words: &str, input: &[u8], step: usize) -> Result<An
     requires { 0 < step }
 {
     let mut input = MemSource::new(alloc, input, step, &[])?;
-    let mut output = MemSink::new(alloc, 1000, step, &[])?;
+    let mut output = MemSink::new(alloc, 3000, step, &[])?;
     let mut report = MemSink::new(alloc, 1000, step, &[])?;
     let status = run_over(alloc, words, &mut input, &mut output, &mut report)?;
     Ok(Answer {
@@ -94,9 +95,10 @@ fn the_first_job_and_its_words(rt: HostRuntime) -> Result<(), Fail> {
 
 // (monomers, whether y is periodic, time, positions, words, what is written after the file, the report)
 #[rattlefmt::skip]
-const WORKED: [(&str, &str, &str, &str, &str, Option<&str>, &str); 9] = [
+const WORKED: [(&str, &str, &str, &str, &str, Option<&str>, &str); 10] = [
     ("1", "1", "0", "3 3 3\n", "run seed=42 frames=2 every=1", Some("\n!mcs=1\n3 4 3\n\n!mcs=2\n3 4 4\n"), "kept 104\nframes 2\nmcs 2\nskipped 0\naccepted 2\nlinks 0\n"),
     ("1", "1", "0", "3 3 3\n", "run seed=42 frames=1 every=2", Some("\n!mcs=2\n3 4 4\n"), "kept 104\nframes 1\nmcs 2\nskipped 0\naccepted 2\nlinks 0\n"),
+    ("1", "1", "0", "3 3 3\r\n", WORDS, Some(ADDED), "kept 105\nframes 1\nmcs 1\nskipped 0\naccepted 1\nlinks 0\n"),
     ("1", "1", "0", "3 3 3\n", "run seed=42 frames=0 every=1", Some(""), "kept 104\nframes 0\nmcs 0\nskipped 0\naccepted 0\nlinks 0\n"),
     ("2", "1", "0", "0 0 0\n0 6 0\n", WORDS, Some("\n!mcs=1\n0 0 0\n0 6 1\n"), "kept 110\nframes 1\nmcs 1\nskipped 0\naccepted 1\nlinks 0\n"),
     ("1", "0", "0", "3 6 3\n", WORDS, Some("\n!mcs=1\n3 6 3\n"), "kept 104\nframes 1\nmcs 1\nskipped 0\naccepted 0\nlinks 0\n"),
@@ -125,6 +127,92 @@ fn worked_cases(rt: HostRuntime) -> Result<(), Fail> {
             }
         }
     }
+    Ok(())
+}
+
+/// The text of a file in a periodic box of this side, with lines of its header before the frame.
+fn file_with(
+    alloc: Global,
+    monomers: &str,
+    side: &str,
+    lines: &str,
+    frame: &str,
+) -> Result<String, AllocError> {
+    format!(in alloc;
+        "!number_of_monomers={monomers}\n!box_x={side}\n!box_y={side}\n!box_z={side}\n!periodic_x=1\n!periodic_y=1\n!periodic_z=1\n{lines}!mcs=0\n{frame}"
+    )
+}
+
+// A set of two vectors, and sets that are wrong.
+const PAIR: &str = "!set_of_bondvectors\n2 0 0:32\n-2 0 0:33\n";
+
+const UNPAIRED: &str = "!set_of_bondvectors\n2 0 0:17\n";
+
+const TOO_SHORT: &str = "!set_of_bondvectors\n1 1 0:17\n";
+
+const TWICE: &str = "!set_of_bondvectors\n2 0 0:17\n2 0 0:17\n";
+
+// (monomers, lines before the frame, the frame, what is written after the file, the report)
+#[rattlefmt::skip]
+const HEADERS: [(&str, &str, &str, Option<&str>, &str); 5] = [
+    ("2", PAIR, "0 0 0  \n", Some("\n!mcs=1\n0 0 0  \n"), "kept 145\nframes 1\nmcs 1\nskipped 0\naccepted 0\nlinks 0\n"),
+    ("1", "", "5 5 5 \n", Some("\n!mcs=1\n5 6 5\n"), "kept 105\nframes 1\nmcs 1\nskipped 0\naccepted 1\nlinks 0\n"),
+    ("1", UNPAIRED, "3 3 3\n", None, "line 10 cause 5 NotSymmetric\n"),
+    ("1", TOO_SHORT, "3 3 3\n", None, "line 9 cause 3 BadVector\n"),
+    ("1", TWICE, "3 3 3\n", None, "line 10 cause 4 Repeated\n"),
+];
+
+#[test]
+fn sets_of_vectors_and_identifiers(rt: HostRuntime) -> Result<(), Fail> {
+    for (monomers, lines, frame, added, report) in HEADERS {
+        let file = file_with(rt.alloc(), monomers, "8", lines, frame)?;
+        let ended = answer_to(rt.alloc(), WORDS, file.as_bytes(), 1000)?;
+        assert!(rt; ended.report.bytes() == report.as_bytes(), "{report}");
+        match added {
+            Some(added) => {
+                assert_eq!(rt; ended.status, Status::Done, "{report}");
+                let output = format!(in rt.alloc(); "{file}{added}")?;
+                assert!(rt; ended.output.bytes() == output.as_bytes(), "{report}");
+            }
+            None => {
+                assert_eq!(rt; ended.status, Status::BadFile, "{report}");
+                assert!(rt; ended.output.bytes().is_empty(), "{report}");
+            }
+        }
+    }
+    Ok(())
+}
+
+/// The entries of the usual set of bond vectors, a line each.
+fn usual_entries(alloc: Global) -> Result<String, AllocError> {
+    let set = BondSet::usual(alloc)?;
+    let mut entries = String::new(alloc);
+    for k in 0..set.len() {
+        let v = set.vector(k);
+        let entry = format!(in alloc; "{} {} {}:{}\n", v.x, v.y, v.z, set.id(k))?;
+        entries.push_str(entry.as_str())?;
+    }
+    Ok(entries)
+}
+
+// Two bonds cross, from (0, 0, 0) to (2, 2, 1) and from (2, 0, 0) to (0, 2, 1). Each step of each
+// monomer would break its bond or overlap another monomer.
+#[test]
+fn crossed_bonds_hold_each_other(rt: HostRuntime) -> Result<(), Fail> {
+    let entries = usual_entries(rt.alloc())?;
+    let lines = format!(in rt.alloc(); "!set_of_bondvectors\n{entries}")?;
+    let frame = "0 0 0 G\n2 0 0 W\n";
+    let file = file_with(rt.alloc(), "4", "16", lines.as_str(), frame)?;
+    let words = "run seed=7 frames=1 every=10";
+    let ended = answer_to(rt.alloc(), words, file.as_bytes(), 1000)?;
+    let output = format!(in rt.alloc(); "{file}\n!mcs=10\n{frame}")?;
+    let kept = file.len();
+    let report = format!(in rt.alloc();
+        "kept {kept}\nframes 1\nmcs 10\nskipped 0\naccepted 0\nlinks 0\n"
+    )?;
+    assert_eq!(rt; ended.status, Status::Done);
+    assert!(rt; ended.output.bytes() == output.as_bytes());
+    assert!(rt; ended.report.bytes() == report.as_bytes());
     Ok(())
 }
 

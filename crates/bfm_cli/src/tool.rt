@@ -1,22 +1,22 @@
 ghost use Rattle.std.specs.Prelude.{◌≡◌, ◌≢◌, ℕ, ◌+◌, ◌*◌, ◌^◌, ◌≤◌, ◌⊎◌, List, length, map, string_bytes, IsErr, IsOk, IfErr, IfSome, Ok};
 ghost use Rattle.std.specs.Io.KnownBytes.{Appends, IsAtEnd};
 ghost use Rattle.bfm_base.specs.Faults.{Rose, AppendsFront, TookFront};
-ghost use Rattle.bfm_cli.specs.File.{verdict_of};
+ghost use Rattle.bfm_commands.specs.Verdict.{verdict_of};
 ghost use Rattle.bfm_cli.specs.Job.{job_of, IsInRange};
 ghost use Rattle.bfm_cli.specs.Outcome.{outcome_of, job_outcome, file_outcome, run_outcome, input_limit};
-ghost use Rattle.bfm_cli.specs.Ending.{Agrees, Writes, WritesNothing, accepted_by, status_of, report_of};
+ghost use Rattle.bfm_cli.specs.Ending.{Agrees, Writes, WritesNothing, status_of, report_of};
 ghost use Rattle.bfm_cli.specs.Promise.{IsJudged, HasValidRun, HasValidStates, report_for, EndedBefore};
 ghost use Rattle.bfm_cli.specs.declared.ending.Ending.TheVariants as ends;
 ghost use Rattle.bfm_cli.specs.declared.ending.Ending.{Ending};
 
 use crate::ending::{Ending, RunDone};
-use crate::file::{File, read};
 use crate::input::{InputStop, read_all};
 use crate::job::{Job, RunOrder, job_of};
 use crate::report::{INPUT_LIMIT, tell};
 use crate::run::run;
 use crate::status::Status;
 use bfm_base::{ReadStop, Sink, Source};
+use bfm_commands::{Loaded, read_whole};
 use std::alloc::Global;
 
 /// The greatest time of a frame, in sweeps.
@@ -147,48 +147,48 @@ fn run_bytes<O: Sink>(alloc: Global, bytes: &[u8], order: &RunOrder, output: &mu
     requires frames { order.now.frames ≤ 2 ^ 20 }
     requires every { order.now.every ≤ 2 ^ 30 }
     requires limit { length bytes.now ≤ input_limit }
-    ensures agrees { Agrees result (file_outcome order.now (verdict_of bytes.now)) }
-    ensures writes { Writes result (O.taken output.old) (O.taken output.new) (O.faults output.old) (O.faults output.new) (file_outcome order.now (verdict_of bytes.now)).output }
+    ensures agrees { Agrees result (file_outcome order.now bytes.now (verdict_of bytes.now)) }
+    ensures writes { Writes result (O.taken output.old) (O.taken output.new) (O.faults output.old) (O.faults output.new) (file_outcome order.now bytes.now (verdict_of bytes.now)).output }
     ensures unwritten { WritesNothing result → output.new ≡ output.old }
     ensures source { result ≢ ends.ReadFault }
     ensures done { status_of result ≡ Status.Done → O.faults output.new ≡ O.faults output.old }
     ensures states { status_of result ≡ Status.Done → HasValidStates order.now (verdict_of bytes.now) }
     ensures write_fault { result ≡ ends.WriteFault → Rose (O.faults output.old) (O.faults output.new) }
 {
-    let file = match read(alloc, bytes) {
-        Ok(file) => file,
-        Err(ReadStop::Refused(refused)) => return Ending::BadFile(refused),
-        Err(ReadStop::Memory) => return Ending::Memory,
-    };
-    run_file(file, bytes, order, output)
+    match read_whole(alloc, bytes) {
+        Ok(loaded) => run_file(loaded, bytes, order, output),
+        Err(ReadStop::Refused(refused)) => Ending::BadFile(refused),
+        Err(ReadStop::Memory) => Ending::Memory,
+    }
 }
 
 /// Runs a file that was accepted.
-fn run_file<O: Sink>(file: File, bytes: &[u8], order: &RunOrder, output: &mut O) -> Ending
+fn run_file<O: Sink>(loaded: Loaded, bytes: &[u8], order: &RunOrder, output: &mut O) -> Ending
     requires frames { order.now.frames ≤ 2 ^ 20 }
     requires every { order.now.every ≤ 2 ^ 30 }
-    requires kept { file.kept ≤ length bytes.now }
-    requires mcs { file.mcs ≤ 2 ^ 40 }
-    ensures agrees { Agrees result (run_outcome (accepted_by file bytes.now) order.now) }
-    ensures writes { Writes result (O.taken output.old) (O.taken output.new) (O.faults output.old) (O.faults output.new) (run_outcome (accepted_by file bytes.now) order.now).output }
+    requires kept { loaded.kept ≤ length bytes.now }
+    requires mcs { loaded.mcs ≤ 2 ^ 40 }
+    ensures agrees { Agrees result (run_outcome loaded order.now bytes.now) }
+    ensures writes { Writes result (O.taken output.old) (O.taken output.new) (O.faults output.old) (O.faults output.new) (run_outcome loaded order.now bytes.now).output }
     ensures unwritten { WritesNothing result → output.new ≡ output.old }
     ensures source { result ≢ ends.ReadFault }
     ensures done { status_of result ≡ Status.Done → O.faults output.new ≡ O.faults output.old }
     ensures write_fault { result ≡ ends.WriteFault → Rose (O.faults output.old) (O.faults output.new) }
 {
     let sweeps = order.frames * order.every;
-    let last = u128::from(file.mcs) + u128::from(sweeps);
-    let monomers = u128::from(file.world.len());
-    let reach = u128::from(file.world.reach().unsigned_abs()) + monomers * u128::from(sweeps);
+    let last = u128::from(loaded.mcs) + u128::from(sweeps);
+    let monomers = u128::from(loaded.world.len());
+    let reach = u128::from(loaded.world.reach().unsigned_abs()) + monomers * u128::from(sweeps);
     if last > GREATEST_MCS || reach > GREATEST_REACH {
         return Ending::TooFar { mcs: last, reach };
     }
-    let kept = &bytes[..file.kept];
-    match run(file.world, file.mcs, kept, order, output) {
+    let kept = &bytes[..loaded.kept as usize];
+    match run(loaded.world, loaded.mcs, kept, order, output) {
         Ok(accepted) => Ending::Done(RunDone {
-            kept: file.kept as u64,
+            kept: loaded.kept,
             frames: order.frames,
-            mcs: file.mcs + sweeps,
+            mcs: loaded.mcs + sweeps,
+            skipped: loaded.skipped,
             accepted,
         }),
         Err(_) => Ending::WriteFault,

@@ -1,11 +1,17 @@
 use Rattle.std.proofs.Common.{◌++◌, List, ℕ, ap, subst}
 use Rattle.std.proofs.lemmas.Result.{err_from_is_err_and}
 use Rattle.bfm_base.specs.Faults.{TookAll, TookFront}
-use Rattle.bfm_base.proofs.TookLemmas.{TookAll-append, TookFront-later, TookAll-flushed, TookFront-flushed}
+use Rattle.bfm_base.proofs.TookLemmas.{TookAll-append, TookFront-append, TookFront-later, TookAll-flushed, TookFront-flushed}
 use Rattle.bfm_world.specs.Configuration.{Configuration}
 use Rattle.bfm_cli.specs.Sweep.{begun_with}
 use Rattle.bfm_cli.specs.Text.{groups_text}
 use Rattle.bfm_cli.proofs.run.run.Goals as goal
+
+pub returns-in_err-send-clause-failed : goal.returns-in_err-send-clause-failed
+returns-in_err-send-clause-failed g c =
+    let p = err_from_is_err_and c.from_residual.result c.from_residual.ensures.1 in
+    let order = c.args.order.now in
+    rw p.1 (TookFront-append _ _ _ _ _ (groups_text order.seed order.every c.args.mcs order.frames (begun_with c.args.world)) c.in_err-send.ensures.failed)
 
 pub returns-in_err-accepted-clause-failed : goal.returns-in_err-accepted-clause-failed
 returns-in_err-accepted-clause-failed g c =

@@ -4,8 +4,8 @@ use Rattle.std.proofs.lemmas.Result.{err_from_is_err_and}
 use Rattle.bfm_base.specs.Faults.{TookFront}
 use Rattle.bfm_base.proofs.TookLemmas.{TookFront-append, TookFront-later}
 use Rattle.bfm_cli.specs.Text.{report_line}
-use Rattle.bfm_cli.proofs.TextLemmas.{flat_map-around}
-use Rattle.bfm_cli.proofs.text.report_lines.Goals as goal
+use Rattle.bfm_base.proofs.PieceLemmas.{flat_map-around}
+use Rattle.bfm_cli.proofs.report.report_lines.Goals as goal
 
 pub returns-in_err-report_line-clause-failed : goal.returns-in_err-report_line-clause-failed
 returns-in_err-report_line-clause-failed g c =

@@ -2,7 +2,7 @@ use Rattle.std.proofs.Common.{take}
 use Rattle.std.specs.List.{flat_map}
 use Rattle.bfm_base.specs.Faults.{TookAll}
 use Rattle.bfm_cli.specs.Text.{report_line}
-use Rattle.bfm_cli.proofs.text.report_lines.Given as goal
+use Rattle.bfm_cli.proofs.report.report_lines.Given as goal
 
 abbrev pub invariant-loop-name : goal.invariant-loop-name
 invariant-loop-name g l =
