@@ -1,4 +1,3 @@
 pub mod GivenLemmas
 pub mod PieceLemmas
 pub mod SendLemmas
-pub mod TookLemmas

@@ -1,3 +1,4 @@
+pub mod Account
 pub mod Cause
 pub mod Direction
 pub mod Faults

@@ -1,5 +1,5 @@
 ghost use Rattle.std.specs.Prelude.{◌≡◌};
-ghost use Rattle.bfm_base.specs.Cause.{number_of, name_of};
+ghost use Rattle.bfm_base.specs.Cause.{cause_number, cause_name};
 
 /// Why a line of a file is refused. The causes are numbered 1 to 19 in this order, and where
 /// several hold of one line the least counts.
@@ -48,14 +48,14 @@ pub enum Cause {
 impl Cause {
     /// The number of the cause, from 1.
     pub fn number(&self) -> u8
-        ensures { result ≡ number_of self.now }
+        ensures { result ≡ cause_number self.now }
     {
         *self as u8 + 1
     }
 
     /// The name of the cause as it stands in reports.
     pub fn name(&self) -> &'static str
-        ensures { result.now ≡ name_of self.now }
+        ensures { result.now ≡ cause_name self.now }
     {
         match self {
             Cause::BadLine => "BadLine",

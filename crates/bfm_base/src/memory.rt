@@ -1,7 +1,9 @@
-ghost use Rattle.std.specs.Prelude.{◌≡◌, ℕ, ◌+◌, ◌-◌, ◌<◌, ◌≤◌, ◌↔◌, ◌⊎◌, min, [], ◌++◌, length, take, drop, Some, IfOk, OnOk, OnErr, IsErr, Contains};
+ghost use Rattle.std.specs.Prelude.{◌≡◌, ℕ, ◌+◌, ◌-◌, ◌<◌, ◌≤◌, ◌↔◌, ◌⊎◌, ◌&&◌, min, true, [], ◌++◌, length, take, drop, Some, IfOk, OnOk, OnErr, IsErr, Contains};
 ghost use Rattle.std.specs.Io.{ReadsAtMost, WritesAtMost};
-ghost use Rattle.std.specs.Io.KnownBytes.{ReadConsumes, WriteAppends, Keeps};
-ghost use Rattle.bfm_base.specs.Memory.{one_more, IsFullFor};
+ghost use Rattle.std.specs.Io.KnownBytes.{ReadConsumes};
+ghost use Rattle.bfm_base.specs.Faults.{one_more};
+ghost use Rattle.bfm_base.specs.Account.{TookAll, FailedCall, Flushes, is_empty};
+ghost use Rattle.bfm_base.specs.Memory.{account_of, IsFullFor};
 
 use crate::stream::{Failed, Sink, Source};
 use std::alloc::{AllocError, Global};
@@ -88,6 +90,7 @@ impl Source for MemSource {
 #[derive(Drop)]
 pub struct MemSink {
     bytes: Vec<u8>,
+    flushed: bool,
     room: usize,
     step: usize,
     fail: Vec<u64>,
@@ -101,7 +104,7 @@ impl Model for MemSink {
 
     ghost Value = { Store };
 
-    ghost view = { λ s. record { taken = s.bytes.items; room = s.room; step = s.step; failing = s.fail.items; calls = s.calls; faults = s.faults } };
+    ghost view = { λ s. record { taken = s.bytes.items; flushed = s.flushed; room = s.room; step = s.step; failing = s.fail.items; calls = s.calls; faults = s.faults } };
 
     ghost invariant = { λ s. (vec_len s.bytes ≤ s.room) × (s.room ≤ vec_capacity s.bytes) × (0 < s.step) };
 }
@@ -112,10 +115,11 @@ impl MemSink {
     /// `fail`.
     pub fn new(alloc: Global, room: usize, step: usize, fail: &[u64]) -> Result<MemSink, AllocError>
         requires { 0 < step }
-        ensures { IfOk result (λ sink. sink ≡ record { taken = []; room = room; step = step; failing = fail.now; calls = 0; faults = 0 }) }
+        ensures { IfOk result (λ sink. sink ≡ record { taken = []; flushed = true; room = room; step = step; failing = fail.now; calls = 0; faults = 0 }) }
     {
         Ok(MemSink {
             bytes: Vec::with_capacity(alloc, room)?,
+            flushed: true,
             room,
             step,
             fail: Vec::from_slice(alloc, fail)?,
@@ -133,21 +137,22 @@ impl MemSink {
 }
 
 impl Sink for MemSink {
-    ghost use Rattle.std.specs.Prelude.{Some};
+    ghost use Rattle.bfm_base.specs.Memory.{account_of};
 
-    ghost taken = { λ s. Some s.taken };
-
-    ghost faults = { λ s. s.faults };
+    ghost account = { account_of };
 
     fn write(&mut self, from: &[u8]) -> Result<usize, Failed>
         ensures bound { WritesAtMost result from.now }
         ensures moves { IfOk result (λ n. 0 < length from.now → 0 < n) }
-        ensures bytes { WriteAppends (Some self.old.taken) (Some self.new.taken) result from.now }
+        ensures taken { IfOk result (λ n. TookAll (account_of self.old) (account_of self.new) (take n from.now)) }
+        ensures failed { OnErr result (FailedCall (account_of self.old) (account_of self.new)) }
         ensures fails { IsErr result ↔ (Contains self.old.failing (one_more self.old.calls) ⊎ IsFullFor self.old from.now) }
-        ensures never_falls { self.old.faults ≤ self.new.faults }
-        ensures ok { IfOk result (λ n.
-            (n ≡ min self.old.step (min (self.old.room - length self.old.taken) (length from.now)))
-            × (self.new ≡ record self.old { taken = self.old.taken ++ take n from.now; calls = one_more self.old.calls })) }
+        ensures count { IfOk result (λ n. n ≡ min self.old.step (min (self.old.room - length self.old.taken) (length from.now))) }
+        ensures ok { IfOk result (λ n. self.new ≡ record self.old {
+          taken = self.old.taken ++ take n from.now;
+          flushed = self.old.flushed && is_empty (take n from.now);
+          calls = one_more self.old.calls;
+        }) }
         ensures err { OnErr result
             (self.new ≡ record self.old { calls = one_more self.old.calls; faults = one_more self.old.faults }) }
     {
@@ -157,16 +162,17 @@ impl Sink for MemSink {
             self.faults = self.faults.saturating_add(1);
             return Err(Failed);
         }
-        let taken = self.step.min(left.min(from.len()));
-        self.bytes.extend_from_slice(&from[..taken]).unwrap();
-        Ok(taken)
+        let taken = &from[..self.step.min(left.min(from.len()))];
+        self.bytes.extend_from_slice(taken).unwrap();
+        self.flushed = self.flushed && taken.is_empty();
+        Ok(taken.len())
     }
 
     fn flush(&mut self) -> Result<(), Failed>
-        ensures bytes { Keeps (Some self.old.taken) (Some self.new.taken) }
+        ensures flushed { OnOk result (Flushes (account_of self.old) (account_of self.new)) }
+        ensures failed { OnErr result (FailedCall (account_of self.old) (account_of self.new)) }
         ensures fails { IsErr result ↔ Contains self.old.failing (one_more self.old.calls) }
-        ensures never_falls { self.old.faults ≤ self.new.faults }
-        ensures ok { OnOk result (self.new ≡ record self.old { calls = one_more self.old.calls }) }
+        ensures ok { OnOk result (self.new ≡ record self.old { flushed = true; calls = one_more self.old.calls }) }
         ensures err { OnErr result
             (self.new ≡ record self.old { calls = one_more self.old.calls; faults = one_more self.old.faults }) }
     {
@@ -175,6 +181,7 @@ impl Sink for MemSink {
             self.faults = self.faults.saturating_add(1);
             return Err(Failed);
         }
+        self.flushed = true;
         Ok(())
     }
 }

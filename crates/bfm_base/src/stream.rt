@@ -1,8 +1,9 @@
-ghost use Rattle.std.specs.Prelude.{◌≡◌, ℕ, ◌<◌, ◌≤◌, List, Option, length, IfOk, OnOk, OnErr};
+ghost use Rattle.std.specs.Prelude.{◌≡◌, ℕ, ◌<◌, ◌≤◌, List, [], Option, Ok, length, take, IfOk, OnOk, OnErr};
 ghost use Rattle.std.specs.List.{flat_map};
 ghost use Rattle.std.specs.Io.{ReadsAtMost, WritesAtMost};
-ghost use Rattle.std.specs.Io.KnownBytes.{ReadConsumes, WriteAppends, Keeps};
-ghost use Rattle.bfm_base.specs.Faults.{Rose, TookAll, TookFront};
+ghost use Rattle.std.specs.Io.KnownBytes.{ReadConsumes};
+ghost use Rattle.bfm_base.specs.Faults.{Rose};
+ghost use Rattle.bfm_base.specs.Account.{Account, TookAll, FailedCall, Flushes, Sends, Delivers};
 
 /// A call on the outside world failed.
 #[derive(Clone, Copy, Debug, PartialEq, Eq)]
@@ -28,34 +29,29 @@ pub trait Source {
 
 /// What takes the bytes of an output or a report, in pieces.
 pub trait Sink {
-    // The bytes that it took, where it tells them.
-    ghost taken: { Self → Option (List ℕ) };
+    // The bytes that it took, where it tells them, how many calls have failed, and whether all that
+    // it took is flushed.
+    ghost account: { Self → Account };
 
-    // How many calls have failed, up to the last value of a u64.
-    ghost faults: { Self → ℕ };
-
-    /// Takes a front of the bytes, and answers how many: at least one, where there are any. A call
-    /// that fails takes nothing.
+    /// Takes the first bytes of a piece, and answers how many: at least one, where there are any.
+    /// A call that fails takes nothing.
     fn write(&mut self, from: &[u8]) -> Result<usize, Failed>
         ensures bound { WritesAtMost result from.now }
         ensures moves { IfOk result (λ n. 0 < length from.now → 0 < n) }
-        ensures bytes { WriteAppends (taken self.old) (taken self.new) result from.now }
-        ensures calm { OnOk result (faults self.new ≡ faults self.old) }
-        ensures rose { OnErr result (Rose (faults self.old) (faults self.new)) }
-        ensures never_falls { faults self.old ≤ faults self.new };
+        ensures taken { IfOk result (λ n. TookAll (account self.old) (account self.new) (take n from.now)) }
+        ensures failed { OnErr result (FailedCall (account self.old) (account self.new)) };
 
-    /// Passes on what was taken, and takes nothing itself.
+    /// Passes on all that was taken, and takes nothing itself.
     fn flush(&mut self) -> Result<(), Failed>
-        ensures bytes { Keeps (taken self.old) (taken self.new) }
-        ensures calm { OnOk result (faults self.new ≡ faults self.old) }
-        ensures rose { OnErr result (Rose (faults self.old) (faults self.new)) }
-        ensures never_falls { faults self.old ≤ faults self.new };
+        ensures flushed { OnOk result (Flushes (account self.old) (account self.new)) }
+        ensures failed { OnErr result (FailedCall (account self.old) (account self.new)) };
 }
 
-/// Writes all the bytes. Where a call of the sink fails, a front of them was taken.
+/// Writes all the bytes, and flushes nothing. Where a call of the sink fails, a prefix of them was
+/// taken. No bytes make no call.
 pub fn send<S: Sink>(sink: &mut S, bytes: &[u8]) -> Result<(), Failed>
-    ensures ok { OnOk result (TookAll (S.taken sink.old) (S.taken sink.new) (S.faults sink.old) (S.faults sink.new) bytes.now) }
-    ensures failed { OnErr result (TookFront (S.taken sink.old) (S.taken sink.new) (S.faults sink.old) (S.faults sink.new) bytes.now) }
+    ensures sent { Sends result (S.account sink.old) (S.account sink.new) bytes.now }
+    ensures nothing { bytes.now ≡ [] → (result ≡ Ok tt) × (sink.new ≡ sink.old) }
 {
     let mut rest = bytes;
     while !rest.is_empty() {
@@ -65,10 +61,9 @@ pub fn send<S: Sink>(sink: &mut S, bytes: &[u8]) -> Result<(), Failed>
     Ok(())
 }
 
-/// Writes pieces of text, one after another.
-pub fn send_all<S: Sink>(sink: &mut S, pieces: &[&[u8]]) -> Result<(), Failed>
-    ensures ok { OnOk result (TookAll (S.taken sink.old) (S.taken sink.new) (S.faults sink.old) (S.faults sink.new) (flat_map (λ piece. piece.now) pieces.now)) }
-    ensures failed { OnErr result (TookFront (S.taken sink.old) (S.taken sink.new) (S.faults sink.old) (S.faults sink.new) (flat_map (λ piece. piece.now) pieces.now)) }
+/// Writes pieces of a text, one after another, and flushes nothing.
+pub fn send_pieces<S: Sink>(sink: &mut S, pieces: &[&[u8]]) -> Result<(), Failed>
+    ensures { Sends result (S.account sink.old) (S.account sink.new) (flat_map (λ piece. piece.now) pieces.now) }
 {
     for piece in pieces {
         send(sink, piece)?;

@@ -1,3 +1,5 @@
+ghost use Rattle.std.specs.Prelude.{◌≤◌, IfOk};
+
 use crate::{Cause, Dir, MemSink, MemSource, P3, Sink, Source, StdSink, StdSource, send};
 use std::io;
 use std::io::{Read, Write};
@@ -57,38 +59,80 @@ fn a_sink_takes_pieces_and_fails_when_told(rt: HostRuntime) -> Result<(), Fail> 
     Ok(())
 }
 
+/// A reader or a writer that passes on at most two bytes a call, and fails once so many calls were
+/// made.
 #[derive(Drop)]
-struct Broken;
+struct Halting {
+    calls: usize,
+}
 
-impl Read for Broken {
-    fn read(&mut self, _buf: &mut [u8]) -> io::Result<usize> {
-        Err(io::Error::from(io::ErrorKind::BrokenPipe))
+impl Halting {
+    fn pass(&mut self, most: usize) -> io::Result<usize>
+        ensures { IfOk result (λ n. n ≤ most) }
+    {
+        if self.calls == 0 {
+            return Err(io::Error::from(io::ErrorKind::BrokenPipe));
+        }
+        self.calls -= 1;
+        Ok(most.min(2))
     }
 }
 
-impl Write for Broken {
+impl Read for Halting {
+    fn read(&mut self, buf: &mut [u8]) -> io::Result<usize> {
+        self.pass(buf.len())
+    }
+}
+
+impl Write for Halting {
+    fn write(&mut self, buf: &[u8]) -> io::Result<usize> {
+        self.pass(buf.len())
+    }
+
+    fn flush(&mut self) -> io::Result<()> {
+        self.pass(0)?;
+        Ok(())
+    }
+}
+
+/// A writer that takes nothing.
+#[derive(Drop)]
+struct Full;
+
+impl Write for Full {
     fn write(&mut self, _buf: &[u8]) -> io::Result<usize> {
         Ok(0)
     }
 
     fn flush(&mut self) -> io::Result<()> {
-        Err(io::Error::from(io::ErrorKind::BrokenPipe))
+        Ok(())
     }
 }
 
 #[test]
 fn adapters_of_std_pass_bytes_and_faults_on(rt: HostRuntime) -> Result<(), Fail> {
-    let mut piece = [0u8; 2];
-    let mut source = StdSource::new(b"abc".as_slice());
-    assert!(rt; source.read(&mut piece) == Ok(2));
-    assert_eq!(rt; piece, *b"ab");
-    assert!(rt; StdSource::new(Broken).read(&mut piece).is_err());
+    let mut piece = [0u8; 3];
+    let mut source = StdSource::new(b"abcd".as_slice());
+    assert!(rt; source.read(&mut piece) == Ok(3));
+    assert_eq!(rt; piece, *b"abc");
+    assert!(rt; source.read(&mut piece) == Ok(1));
+    assert!(rt; source.read(&mut piece) == Ok(0));
+    let mut halting = StdSource::new(Halting { calls: 1 });
+    assert!(rt; halting.read(&mut piece) == Ok(2));
+    assert!(rt; halting.read(&mut piece).is_err());
     let mut sink = StdSink::new(Vec::new(rt.alloc()));
     assert!(rt; sink.write(b"xyz") == Ok(3));
     assert!(rt; sink.flush().is_ok());
-    let mut broken = StdSink::new(Broken);
-    assert!(rt; broken.write(b"") == Ok(0));
-    assert!(rt; broken.write(b"x").is_err());
-    assert!(rt; broken.flush().is_err());
+    let mut halting = StdSink::new(Halting { calls: 3 });
+    assert!(rt; halting.write(b"xyz") == Ok(2));
+    assert!(rt; halting.write(b"z") == Ok(1));
+    assert!(rt; halting.flush().is_ok());
+    assert!(rt; halting.write(b"x").is_err());
+    assert!(rt; halting.flush().is_err());
+    assert!(rt; send(&mut StdSink::new(Halting { calls: 3 }), b"abcde").is_ok());
+    assert!(rt; send(&mut StdSink::new(Halting { calls: 2 }), b"abcde").is_err());
+    let mut full = StdSink::new(Full);
+    assert!(rt; full.write(b"") == Ok(0));
+    assert!(rt; full.write(b"x").is_err());
     Ok(())
 }

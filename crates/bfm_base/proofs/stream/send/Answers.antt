@@ -1,19 +1,18 @@
-use Rattle.std.proofs.Common.{◌∙◌, subst, arith}
+use Rattle.std.proofs.Common.{◌≡◌, length, arith}
+use Rattle.std.proofs.lemmas.Bool.Decides.{nat_tests}
 use Rattle.std.proofs.lemmas.Result.{err_from_is_err_and}
-use Rattle.bfm_base.specs.Faults.{Rose}
-use Rattle.bfm_base.proofs.SendLemmas.{SentSoFar-more, SentSoFar-front}
+use Rattle.bfm_base.proofs.SendLemmas.{SentSoFar-more, SentSoFar-failed, SentSoFar-some}
 use Rattle.bfm_base.proofs.stream.send.Goals as goal
 
 pub loop-rest-preserved : goal.loop-rest-preserved
-loop-rest-preserved g c =
-    (SentSoFar-more _ _ _ _ _ _ c.loop-rest.invariant.0 c.in_ok-taken.ensures.bytes, c.in_ok-taken.ensures.calm ∙ c.loop-rest.invariant.1)
+loop-rest-preserved g c = record {
+  sent = SentSoFar-more _ _ _ _ _ _ c.loop-rest.invariant.sent c.in_ok-taken.ensures.taken;
+  untouched = λ none.
+      let empty : length c.loop-rest.rest.now ≡ 0 = SentSoFar-some _ _ _ _ c.loop-rest.invariant.sent none in
+      absurd (grind (arith, nat_tests));
+}
 
-pub returns-in_err-taken-clause-failed : goal.returns-in_err-taken-clause-failed
-returns-in_err-taken-clause-failed g c =
+pub returns-in_err-taken-clause-sent : goal.returns-in_err-taken-clause-sent
+returns-in_err-taken-clause-sent g c =
     let p = err_from_is_err_and c.from_residual.result c.from_residual.ensures.1 in
-    let calm = c.loop-rest.invariant.1 in
-    rw p.1 (record {
-      front = SentSoFar-front _ _ _ _ _ c.loop-rest.invariant.0 c.in_err-taken.ensures.bytes;
-      rose = subst (λ n. Rose n (g.S.Sink.faults c.write.new.self)) calm c.in_err-taken.ensures.rose;
-      never_falls = omega (arith, calm, c.in_err-taken.ensures.never_falls);
-    })
+    rw p.1 (SentSoFar-failed _ _ _ _ _ c.loop-rest.invariant.sent c.in_err-taken.ensures.failed)
