@@ -8,10 +8,10 @@ use Rattle.bfm_geom.proofs.IntegerLemmas.{*ℤ-neg_ℤ, *ℤ-+ℤ}
 use Rattle.bfm_base.specs.declared.place.P3.{P3}
 use Rattle.bfm_base.specs.declared.place.Shape.{Shape}
 use Rattle.bfm_base.specs.Place.{extent_of}
-use Rattle.bfm_geom.specs.Difference.{IsBox, IsNearest, IsWrapped, IsWrappedAlong, plus, minus, overlaps, side_of, is_periodic, wrapped, wrapped_along}
+use Rattle.bfm_geom.specs.Difference.{HasSides, IsNearest, IsWrapped, IsWrappedAlong, plus, minus, overlaps, side_of, is_periodic, wrapped, wrapped_along}
 
 -- what the remainder leaves is a whole number of sides, and it lies from 0 to below the side
-folded_is : (side : ℕ) (d : ℤ) → 0 < side → (k : ℤ) × ((int_rem_euclid d (pos side) ≡ d +ℤ k *ℤ pos side) × (pos 0 ≤ℤ int_rem_euclid d (pos side)) × (int_rem_euclid d (pos side) <ℤ pos side))
+pub folded_is : (side : ℕ) (d : ℤ) → 0 < side → (k : ℤ) × ((int_rem_euclid d (pos side) ≡ d +ℤ k *ℤ pos side) × (pos 0 ≤ℤ int_rem_euclid d (pos side)) × (int_rem_euclid d (pos side) <ℤ pos side))
 folded_is side (pos a) h =
     (neg_ℤ (pos (a / side)), (omega (arith, ints, *ℤ_comm (neg_ℤ (pos (a / side))) (pos side) ∙ *ℤ-neg_ℤ (pos side) (pos (a / side))), omega (arith, ints), omega (arith, ints)))
 folded_is side (negsuc a) h = (pos (a / side + 1), (omega (arith, ints), omega (arith, ints), omega (arith, ints)))
@@ -32,7 +32,7 @@ wrapped_along-is true side d h =
     nearest_of_folded side d f.0 (int_rem_euclid d (pos side)) f.1.0 f.1.1 f.1.2 (int_le (pos 2 *ℤ int_rem_euclid d (pos side)) (pos side)) refl
 
 -- a multiple of the side that is below one side in absolute value is 0
-no_turn : (side : ℕ) (k m : ℤ) → m ≡ k *ℤ pos side → neg_ℤ (pos side) <ℤ m → m <ℤ pos side → m ≡ pos 0
+pub no_turn : (side : ℕ) (k m : ℤ) → m ≡ k *ℤ pos side → neg_ℤ (pos side) <ℤ m → m <ℤ pos side → m ≡ pos 0
 no_turn side (pos zero) m e l h = omega (arith, ints)
 no_turn side (pos (suc k)) m e l h = omega (arith, ints)
 no_turn side (negsuc k) m e l h = omega (arith, ints)
@@ -80,7 +80,7 @@ wrapped_along-near side d h above below =
     IsWrappedAlong-unique true side d _ d (wrapped_along-is true side d h) record { turns = (pos 0, omega (arith, ints)); above = above; below = below }
 
 -- overlap does not ask which of the two monomers comes first
-pub overlaps-symmetric : (shape : Shape) (a b : P3) → IsBox shape → overlaps shape a b ≡ overlaps shape b a
+pub overlaps-symmetric : (shape : Shape) (a b : P3) → HasSides shape → overlaps shape a b ≡ overlaps shape b a
 overlaps-symmetric shape a b box =
     let at_most : (x y : ℕ) → x ≡ y → nat_le x 1 ≡ nat_le y 1 = λ x y e. ap (λ n. nat_le n 1) e in
     let along : (axis : ℕ) (p q : ℤ) → 0 < side_of shape axis → nat_abs (wrapped_along (is_periodic shape axis) (side_of shape axis) (q -ℤ p)) ≡ nat_abs (wrapped_along (is_periodic shape axis) (side_of shape axis) (p -ℤ q)) =
@@ -90,7 +90,7 @@ overlaps-symmetric shape a b box =
     ∙ ap (λ n. nat_le (nat_abs (wrapped shape (minus a b)).x) 1 && nat_le (nat_abs (wrapped shape (minus a b)).y) 1 && nat_le n 1) (along 2 a.z b.z (omega (arith, box.z)))
 
 -- the wrapped form meets what makes a wrapped difference the right one
-pub IsWrapped-wrapped : (shape : Shape) (d w : P3) → IsBox shape → w ≡ wrapped shape d → IsWrapped shape d w
+pub IsWrapped-wrapped : (shape : Shape) (d w : P3) → HasSides shape → w ≡ wrapped shape d → IsWrapped shape d w
 IsWrapped-wrapped shape d w box e = subst (IsWrapped shape d) (sym e) record {
   x = wrapped_along-is (is_periodic shape 0) (side_of shape 0) d.x (omega (arith, box.x));
   y = wrapped_along-is (is_periodic shape 1) (side_of shape 1) d.y (omega (arith, box.y));

@@ -1,6 +1,7 @@
 -- Differences of places in a box, and the excluded volume of a monomer (Carmesin and Kremer 1988).
-use Rattle.std.specs.Prelude.{◌≡◌, ℕ, ◌*◌, ◌^◌, ◌≤◌, Bool, true, false, ◌&&◌, nat_le, ℤ, pos, neg_ℤ, ◌+ℤ◌, ◌-ℤ◌, ◌*ℤ◌, ◌<ℤ◌, ◌≤ℤ◌, int_le, nat_abs, slice_index, slice_index_or, MatchBool, if◌then◌else◌}
+use Rattle.std.specs.Prelude.{◌≡◌, ℕ, ◌*◌, ◌≤◌, Bool, true, false, ◌&&◌, nat_le, ℤ, pos, neg_ℤ, ◌+ℤ◌, ◌-ℤ◌, ◌*ℤ◌, ◌<ℤ◌, ◌≤ℤ◌, int_le, nat_abs, slice_index, slice_index_or, MatchBool, if◌then◌else◌}
 use Rattle.std.specs.Int.{int_rem_euclid}
+use Rattle.bfm_base.specs.declared.limits.TheConstants.{LEAST_SIDE, GREATEST_SIDE, MOST_SITES}
 use Rattle.bfm_base.specs.declared.place.P3.{P3}
 use Rattle.bfm_base.specs.declared.place.Shape.{Shape}
 
@@ -14,14 +15,18 @@ is_periodic shape axis = slice_index_or shape.periodic axis false
 
 -- a side is within its limits
 abbrev pub IsSide : ℕ → Type 0
-IsSide side = (8 ≤ side) × (side ≤ 512)
+IsSide side = (LEAST_SIDE ≤ side) × (side ≤ GREATEST_SIDE)
 
--- the sides and their product are within their limits
-pub record IsBox (shape : Shape) : Type 0 where
+-- the sides are within their limits
+pub record HasSides (shape : Shape) : Type 0 where
   pub x : IsSide (side_of shape 0)
   pub y : IsSide (side_of shape 1)
   pub z : IsSide (side_of shape 2)
-  pub sites : side_of shape 0 * side_of shape 1 * side_of shape 2 ≤ 2 ^ 24
+
+-- so are the sides, and the number of sites
+pub record IsBox (shape : Shape) : Type 0 where
+  pub sides : HasSides shape
+  pub sites : side_of shape 0 * side_of shape 1 * side_of shape 2 ≤ MOST_SITES
 
 -- each coordinate is at most this much in absolute value
 pub record IsWithin (reach : ℕ) (p : P3) : Type 0 where

@@ -1,15 +1,16 @@
 ghost use Rattle.std.specs.Prelude.{◌≡◌, ◌+◌, ◌^◌, ◌≤◌, true, nat_abs, nat_le};
 ghost use Rattle.bfm_base.specs.Place.{extent_of};
-ghost use Rattle.bfm_geom.specs.Difference.{IsBox, IsSide, IsWithin, IsWrapped, minus, plus, wrapped, wrapped_along, overlaps};
+ghost use Rattle.bfm_geom.specs.Difference.{HasSides, IsSide, IsWithin, IsWrapped, minus, plus, wrapped, wrapped_along, overlaps};
 
+use bfm_base::limits::{DIFFERENCE_REACH, PLACE_REACH};
 use bfm_base::{P3, Shape};
 
 /// The difference of two places, in lattice units: the plain one, whatever the box.
 pub fn plain_difference(from: P3, to: P3) -> P3
-    requires from { IsWithin (2 ^ 45) from }
-    requires to { IsWithin (2 ^ 45) to }
+    requires from { IsWithin PLACE_REACH from }
+    requires to { IsWithin PLACE_REACH to }
     ensures value { result ≡ minus to from }
-    ensures reach { IsWithin (2 ^ 46) result }
+    ensures reach { IsWithin DIFFERENCE_REACH result }
     ensures near { IsWithin (2 ^ 10) from → IsWithin (2 ^ 10) to → IsWithin (2 ^ 11) result }
 {
     P3 {
@@ -21,8 +22,8 @@ pub fn plain_difference(from: P3, to: P3) -> P3
 
 /// The place that a vector leads to from another, in lattice units.
 pub fn shifted(p: P3, vector: P3) -> P3
-    requires place { extent_of p ≤ 2 ^ 45 }
-    requires vector { extent_of vector ≤ 2 ^ 45 }
+    requires place { extent_of p ≤ PLACE_REACH }
+    requires vector { extent_of vector ≤ PLACE_REACH }
     ensures value { result ≡ plus p vector }
     ensures near { extent_of result ≤ extent_of p + extent_of vector }
 {
@@ -31,8 +32,8 @@ pub fn shifted(p: P3, vector: P3) -> P3
 
 // The sum of two vectors.
 fn sum(a: P3, b: P3) -> P3
-    requires first { extent_of a ≤ 2 ^ 45 }
-    requires second { extent_of b ≤ 2 ^ 45 }
+    requires first { extent_of a ≤ PLACE_REACH }
+    requires second { extent_of b ≤ PLACE_REACH }
     ensures { result ≡ plus a b }
 {
     P3 {
@@ -46,8 +47,8 @@ fn sum(a: P3, b: P3) -> P3
 /// number that differs from the component by whole sides and lies above minus half the side and at
 /// or below half the side, on a walled axis the component itself.
 pub fn wrap(shape: &Shape, p: P3) -> P3
-    requires shape { IsBox shape.now }
-    requires reach { IsWithin (2 ^ 46) p }
+    requires shape { HasSides shape.now }
+    requires reach { IsWithin DIFFERENCE_REACH p }
     ensures value { result ≡ wrapped shape.now p }
     ensures nearest { IsWrapped shape.now p result }
 {
@@ -61,7 +62,7 @@ pub fn wrap(shape: &Shape, p: P3) -> P3
 // The wrapped form along one axis.
 fn wrap_along(periodic: bool, side: u16, d: i64) -> i64
     requires side { IsSide side }
-    requires reach { nat_abs d ≤ 2 ^ 46 }
+    requires reach { nat_abs d ≤ DIFFERENCE_REACH }
     ensures { result ≡ wrapped_along periodic side d }
 {
     if periodic { fold_around(side, d) } else { d }
@@ -71,7 +72,7 @@ fn wrap_along(periodic: bool, side: u16, d: i64) -> i64
 // division.
 fn fold_around(side: u16, d: i64) -> i64
     requires side { IsSide side }
-    requires reach { nat_abs d ≤ 2 ^ 46 }
+    requires reach { nat_abs d ≤ DIFFERENCE_REACH }
     ensures { result ≡ wrapped_along true side d }
 {
     let side = i64::from(side);
@@ -89,9 +90,9 @@ fn fold_around(side: u16, d: i64) -> i64
 /// Whether two monomers share a site of the lattice (Carmesin and Kremer 1988): each component of
 /// their wrapped difference is at most 1 in absolute value.
 pub fn overlap(shape: &Shape, a: P3, b: P3) -> bool
-    requires shape { IsBox shape.now }
-    requires first { IsWithin (2 ^ 45) a }
-    requires second { IsWithin (2 ^ 45) b }
+    requires shape { HasSides shape.now }
+    requires first { IsWithin PLACE_REACH a }
+    requires second { IsWithin PLACE_REACH b }
     ensures { result ≡ overlaps shape.now a b }
 {
     is_near_along(shape.periodic[0], shape.sides[0], b.x - a.x)
@@ -102,7 +103,7 @@ pub fn overlap(shape: &Shape, a: P3, b: P3) -> bool
 // Whether the wrapped form along one axis is at most 1 in absolute value.
 fn is_near_along(periodic: bool, side: u16, d: i64) -> bool
     requires side { IsSide side }
-    requires reach { nat_abs d ≤ 2 ^ 46 }
+    requires reach { nat_abs d ≤ DIFFERENCE_REACH }
     ensures { result ≡ nat_le (nat_abs (wrapped_along periodic side d)) 1 }
 {
     let w = wrap_along(periodic, side, d);
