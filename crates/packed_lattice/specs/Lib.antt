@@ -1,0 +1,5 @@
+pub mod Cover
+pub mod Cube
+pub mod Owners
+pub mod Packing
+pub mod Sites
