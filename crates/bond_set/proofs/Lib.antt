@@ -1,4 +1,5 @@
 pub mod KindLemmas
 pub mod ListLemmas
 pub mod PairLemmas
+pub mod TableLemmas
 pub mod UsualLemmas

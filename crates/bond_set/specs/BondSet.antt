@@ -4,6 +4,7 @@ use Rattle.std.specs.Prelude.{ℕ, ℤ, pos, negsuc, neg_ℤ, unsigned_abs, ◌�
 use Rattle.std.specs.List.{All, Contains, find, IsDistinct}
 use Rattle.std.specs.Map.{lookup}
 use Rattle.std.specs.Ordering.{int_eq}
+use Rattle.bfm_base.specs.declared.limits.TheConstants.{MOST_VECTORS}
 use Rattle.bfm_base.specs.declared.place.P3.{P3}
 use Rattle.bfm_base.specs.Place.{extent_of}
 use Rattle.bfm_base.specs.declared.cause.Cause.{Cause}
@@ -28,7 +29,7 @@ is_identifier (negsuc n) = false
 
 -- how many vectors a set has at most
 abbrev pub most_vectors : ℕ
-most_vectors = 200
+most_vectors = MOST_VECTORS
 
 -- the vectors in their order
 abbrev pub vectors_of : List (P3 × ℕ) → List P3

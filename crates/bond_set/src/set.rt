@@ -4,11 +4,14 @@ ghost use Rattle.bfm_base.specs.declared.place.P3.{P3};
 ghost use Rattle.bfm_base.specs.Place.{extent_of};
 ghost use Rattle.bond_set.specs.BondSet.{IsBondSet, IsSymmetric, vectors_of, ids_of, negative_of, first_unpaired, refusal_of};
 ghost use Rattle.bond_set.specs.BondSet as bond_set;
+ghost use Rattle.bond_set.specs.Crossing.{after_step};
+ghost use Rattle.bond_set.specs.FlatTables.{digit_of, key_of};
 ghost use Rattle.bond_set.specs.SetFault.{refused_cause};
 ghost use Rattle.bond_set.specs.UsualSet.{usual_set, IsUsual};
 
 use crate::usual::list_usual_vectors;
-use bfm_base::{Cause, P3};
+use bfm_base::limits::MOST_VECTORS;
+use bfm_base::{Cause, Dir, P3};
 use indexmap::IndexMap;
 use std::alloc::{AllocError, Global};
 use std::marker::Model;
@@ -37,20 +40,24 @@ impl From<AllocError> for SetFault {
 #[derive(Drop)]
 pub struct BondSet {
     ids: IndexMap<P3, u8>,
-    vectors: IndexMap<u8, P3>,
+    // Tables for look-ups that do not hash: the identifier by the vector's key, and one more than
+    // the vector's place by its identifier. 0 stands for none.
+    near: [u8; 512],
+    places: [u8; 256],
 }
 
 impl Model for BondSet {
     ghost use Rattle.std.specs.Prelude.{◌≡◌, List, ℕ};
     ghost use Rattle.bfm_base.specs.declared.place.P3.{P3};
     ghost use Rattle.bfm_base.specs.Place.{extent_of};
-    ghost use Rattle.bond_set.specs.BondSet.{IsBondSet, flipped};
+    ghost use Rattle.bond_set.specs.BondSet.{IsBondSet};
+    ghost use Rattle.bond_set.specs.FlatTables.{AreTables};
 
     ghost Value = { List (P3 × ℕ) };
 
     ghost view = { λ s. s.ids.entries };
 
-    ghost invariant = { λ s. (s.vectors.entries ≡ flipped s.ids.entries) × IsBondSet s.ids.entries };
+    ghost invariant = { λ s. IsBondSet s.ids.entries × AreTables s.ids.entries s.near s.places };
 }
 
 impl BondSet {
@@ -58,9 +65,12 @@ impl BondSet {
     pub fn new(alloc: Global) -> BondSet
         ensures { result ≡ [] }
     {
+        let near = [0; 512];
+        let places = [0; 256];
         BondSet {
             ids: IndexMap::new(alloc),
-            vectors: IndexMap::new(alloc),
+            near,
+            places,
         }
     }
 
@@ -123,7 +133,11 @@ impl BondSet {
         ensures present { IsSome result ↔ Contains (vectors_of self.now) v }
         ensures pair { IfSome result (λ id. Contains self.now (v, id)) }
     {
-        self.ids.get(&v).copied()
+        let id = self.near[key(v)];
+        if id == 0 {
+            return None;
+        }
+        Some(id)
     }
 
     /// The vector of an identifier, where it is in the set.
@@ -133,7 +147,20 @@ impl BondSet {
         ensures pair { IfSome result (λ v. Contains self.now (v, id)) }
         ensures reach { IfSome result (λ v. extent_of v ≤ 3) }
     {
-        self.vectors.get(&id).copied()
+        let count = self.places[id as usize];
+        if count == 0 {
+            return None;
+        }
+        Some(self.vector(count as usize - 1))
+    }
+
+    /// Whether the end of a bond `v` may step: the set holds the vector after the step. Components
+    /// of `v` are at most 2^62 in absolute value.
+    pub fn may_step(&self, v: P3, dir: Dir) -> bool
+        requires { extent_of v ≤ 2 ^ 62 }
+        ensures { IsTrue result ↔ Contains (vectors_of self.now) (after_step v dir) }
+    {
+        self.id_of(stepped(v, dir)).is_some()
     }
 
     /// Adds a vector and its identifier. It refuses an identifier that is not 1 to 255 or is 9, 10
@@ -183,7 +210,7 @@ impl BondSet {
         if !is_bond_vector(v) {
             return Some(Cause::BadVector);
         }
-        if self.ids.contains_key(&v) || self.vectors.contains_key(&(id as u8)) {
+        if self.id_of(v).is_some() || self.vector_of(id as u8).is_some() {
             return Some(Cause::Repeated);
         }
         None
@@ -195,14 +222,12 @@ impl BondSet {
         ensures ok { OnOk result (self.new ≡ self.old ++ (v, id) ∷ []) }
         ensures err { OnErr result (self.new ≡ self.old) }
     {
-        self.vectors.reserve(1)?;
         self.ids.insert(v, id)?;
-        self.vectors.insert(id, v).unwrap();
+        self.near[key(v)] = id;
+        self.places[id as usize] = self.ids.len() as u8;
         Ok(())
     }
 }
-
-const MOST_VECTORS: usize = 200;
 
 const FIRST_USUAL_ID: u8 = 17;
 
@@ -226,5 +251,43 @@ fn negative(v: P3) -> P3
         x: -v.x,
         y: -v.y,
         z: -v.z,
+    }
+}
+
+// The vector after a step of its end.
+fn stepped(v: P3, dir: Dir) -> P3
+    requires { extent_of v ≤ 2 ^ 62 }
+    ensures { result ≡ after_step v dir }
+{
+    let step = dir.step();
+    P3 {
+        x: v.x + step.x,
+        y: v.y + step.y,
+        z: v.z + step.z,
+    }
+}
+
+// Where the identifier of a vector stands in the table.
+fn key(v: P3) -> usize
+    ensures value { result ≡ key_of v }
+    ensures within { result < 512 }
+{
+    64 * digit(v.x) + 8 * digit(v.y) + digit(v.z)
+}
+
+// One digit for each component that a bond vector may have, and one for all others.
+fn digit(component: i64) -> usize
+    ensures value { result ≡ digit_of component }
+    ensures within { result < 8 }
+{
+    match component {
+        -3 => 0,
+        -2 => 1,
+        -1 => 2,
+        0 => 3,
+        1 => 4,
+        2 => 5,
+        3 => 6,
+        _ => 7,
     }
 }

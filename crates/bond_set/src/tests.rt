@@ -1,5 +1,5 @@
 use crate::{BondSet, SetFault};
-use bfm_base::{Cause, P3};
+use bfm_base::{Cause, Dir, P3};
 use std::test::Fail;
 
 // Members of the usual set: of each kind the first and the last, of the first kind all, and three
@@ -126,6 +126,36 @@ const GROWING: [(P3, i64, Option<P3>); 6] = [
     (P3 { x: 0, y: -2, z: 0 }, 36, Some(P3 { x: 3, y: -1, z: 2 })),
     (P3 { x: -3, y: 1, z: -2 }, 37, None),
 ];
+
+// Bond vectors and places beside them, steps, and whether the step leads to a usual bond vector.
+const STEPS: [(P3, Dir, bool); 8] = [
+    (P3 { x: 2, y: 0, z: 0 }, Dir::XUp, true),
+    (P3 { x: 2, y: 0, z: 0 }, Dir::XDown, false),
+    (P3 { x: 2, y: 2, z: 1 }, Dir::YDown, true),
+    (P3 { x: 2, y: 2, z: 1 }, Dir::ZDown, false),
+    (P3 { x: 2, y: 2, z: 0 }, Dir::ZUp, true),
+    (P3 { x: 0, y: 0, z: -4 }, Dir::ZUp, true),
+    (P3 { x: 0, y: 0, z: -4 }, Dir::ZDown, false),
+    (
+        P3 {
+            x: 0,
+            y: -4611686018427387904,
+            z: 0,
+        },
+        Dir::YDown,
+        false,
+    ),
+];
+
+#[test]
+fn an_end_may_step_to_vectors_of_the_set(rt: HostRuntime) -> Result<(), Fail> {
+    let set = BondSet::usual(rt.alloc())?;
+    for (v, step, expected) in STEPS {
+        assert!(rt; v.extent() <= 1 << 62);
+        assert_eq!(rt; set.may_step(v, step), expected);
+    }
+    Ok(())
+}
 
 #[test]
 fn usual_vectors_have_their_identifiers(rt: HostRuntime) -> Result<(), Fail> {

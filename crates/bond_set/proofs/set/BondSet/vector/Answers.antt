@@ -14,4 +14,4 @@ returns-clause-reach c =
     let entry = sym c.get_index.ensures.entry ∙ ap (option_map deref_pair) c.unwrap.ensures in
     let at : slice_get (bond_set.vectors_of pairs) c.args.k ≡ Some v =
     slice_get-map (λ e. e.0) pairs c.args.k ∙ ap (option_map (λ e. e.0)) entry in
-    extent_of-bond_vector v (All-slice_get (λ w. IsTrue (bond_set.is_bond_vector w)) _ c.args.k v c.self.invariant.1.vectors at)
+    extent_of-bond_vector v (All-slice_get (λ w. IsTrue (bond_set.is_bond_vector w)) _ c.args.k v c.self.invariant.0.vectors at)

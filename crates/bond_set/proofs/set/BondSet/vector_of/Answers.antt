@@ -1,25 +1,34 @@
-use Rattle.std.proofs.Common.{◌≡◌, rules, IsTrue}
-use Rattle.std.proofs.lemmas.Option.{IfSome_then}
+use Rattle.std.proofs.Common.{◌≡◌, None, Some, Option, IsSome, IfSome, ◌↔◌, Contains, sym, subst}
+use Rattle.bfm_base.specs.declared.place.P3.{P3}
 use Rattle.bond_set.specs.BondSet as bond_set
-use Rattle.bond_set.proofs.PairLemmas.{vector_of-present, vector_of-pair, extent_of-bond_vector}
-use Rattle.bond_set.proofs.ListLemmas.{Contains-map}
-use Rattle.std.proofs.lemmas.List.Elements.{All-contains}
+use Rattle.bond_set.proofs.PairLemmas.{vector_of-present, vector_of-pair}
+use Rattle.bond_set.proofs.TableLemmas.{vector_of-zero, vector_of-entry}
 use Rattle.bond_set.proofs.set.BondSet.vector_of.Goals as goal
+
+-- no vector has the identifier
+absent : (c : goal.Then-count-eq0) → bond_set.vector_of c.args.self.now c.args.id ≡ None
+absent c = rw (← c.self.view_is) (vector_of-zero _ c.self.inside.near c.self.inside.places c.args.id c.self.invariant.1 c.if-count-eq0.true)
+
+-- one does
+present : (c : goal.After-vector) → bond_set.vector_of c.args.self.now c.args.id ≡ Some c.vector.result
+present c =
+    let at = rw (← c.self.view_is) at c.vector.ensures.value in
+    rw (← c.self.view_is) (vector_of-entry _ c.self.inside.near c.self.inside.places c.args.id c.vector.result c.self.invariant.1 c.if-count-eq0.false at)
+
+pub returns-then-count-eq0-clause-value : goal.returns-then-count-eq0-clause-value
+returns-then-count-eq0-clause-value c = sym (absent c)
+
+pub returns-then-count-eq0-clause-present : goal.returns-then-count-eq0-clause-present
+returns-then-count-eq0-clause-present c =
+    subst (λ (o : Option P3). IsSome o ↔ Contains (bond_set.ids_of c.args.self.now) c.args.id) (absent c) (vector_of-present c.args.self.now c.args.id)
+
+pub returns-clause-value : goal.returns-clause-value
+returns-clause-value c = sym (present c)
 
 pub returns-clause-present : goal.returns-clause-present
 returns-clause-present c =
-    let e : c.copied.result ≡ bond_set.vector_of c.args.self.now c.args.id = search rules in
-    rw e (vector_of-present c.args.self.now c.args.id)
+    subst (λ (o : Option P3). IsSome o ↔ Contains (bond_set.ids_of c.args.self.now) c.args.id) (present c) (vector_of-present c.args.self.now c.args.id)
 
 pub returns-clause-pair : goal.returns-clause-pair
 returns-clause-pair c =
-    let e : c.copied.result ≡ bond_set.vector_of c.args.self.now c.args.id = search rules in
-    rw e (vector_of-pair c.args.self.now c.args.id)
-
-pub returns-clause-reach : goal.returns-clause-reach
-returns-clause-reach c =
-    let pairs = c.self.inside.ids.entries in
-    let e : c.copied.result ≡ bond_set.vector_of pairs c.args.id = search rules in
-    rw e (IfSome_then _ (vector_of-pair pairs c.args.id)
-    (λ v h. extent_of-bond_vector v (All-contains (λ w. IsTrue (bond_set.is_bond_vector w)) (bond_set.vectors_of pairs) v c.self.invariant.1.vectors
-    (Contains-map (λ p. p.0) pairs (v, c.args.id) h))))
+    subst (λ (o : Option P3). IfSome o (λ v. Contains c.args.self.now (v, c.args.id))) (present c) (vector_of-pair c.args.self.now c.args.id)
