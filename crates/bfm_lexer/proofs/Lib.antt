@@ -1,2 +1,4 @@
 pub mod CutterLemmas
+pub mod FieldLemmas
 pub mod LinesLemmas
+pub mod NumberLemmas

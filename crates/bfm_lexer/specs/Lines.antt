@@ -1,6 +1,7 @@
 -- The lines of a file: the pieces of its bytes between newlines.
 use Rattle.std.specs.Prelude.{ℕ, ◌-◌, Bool, ◌==◌, nat_lt, List, [], ◌∷◌, length, take, slice_index, if◌then◌else◌}
 use Rattle.std.specs.List.{list_any}
+use Rattle.bfm_base.specs.declared.limits.TheConstants.{LONGEST_LINE}
 
 -- a byte is put before the first line
 abbrev pub begun : ℕ → List (List ℕ) → List (List ℕ)
@@ -27,4 +28,4 @@ without_return line = if slice_index line (length line - 1) == 13 then take (len
 
 -- more bytes than a line may have, a carriage return counted
 abbrev pub is_long : List ℕ → Bool
-is_long line = nat_lt 524287 (length line)
+is_long line = nat_lt LONGEST_LINE (length line)

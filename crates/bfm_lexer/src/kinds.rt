@@ -1,6 +1,5 @@
 ghost use Rattle.std.specs.Prelude.{◌≡◌};
-ghost use Rattle.std.specs.List.{list_all};
-ghost use Rattle.bfm_lexer.specs.Kinds.{is_blank, kind_of};
+ghost use Rattle.bfm_lexer.specs.Kinds.{is_blank, is_bare, kind_of};
 
 /// What a line is for. Blank lines and comments have no meaning.
 #[derive(Clone, Copy, Debug, PartialEq, Eq)]
@@ -23,18 +22,19 @@ pub fn kind(line: &[u8]) -> LineKind
         [] => LineKind::Blank,
         [b'!', ..] | [b'#', b'!', ..] => LineKind::Command,
         [b'#', ..] => LineKind::Comment,
-        [b' ' | b'\t', rest @ ..] if is_all_blank(rest) => LineKind::Blank,
+        [b' ' | b'\t', rest @ ..] if is_bare(rest) => LineKind::Blank,
         _ => LineKind::Entry,
     }
 }
 
-fn is_all_blank(line: &[u8]) -> bool
-    ensures { result ≡ list_all is_blank line.now }
+/// Empty, or spaces and tabs only.
+pub fn is_bare(line: &[u8]) -> bool
+    ensures { result ≡ is_bare line.now }
 {
     line.iter().all(|byte| is_blank(*byte))
 }
 
-fn is_blank(byte: u8) -> bool
+pub(crate) fn is_blank(byte: u8) -> bool
     ensures { result ≡ is_blank byte }
 {
     byte == b' ' || byte == b'\t'

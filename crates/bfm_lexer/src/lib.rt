@@ -5,12 +5,16 @@
 //! exact, and that nothing but `LineCutter::new` takes memory.
 #![tactic(auto)]
 
+mod fields;
 mod kinds;
 mod lines;
 mod numbers;
 #[cfg(test)]
 mod tests;
 
-pub use kinds::{LineKind, kind};
+pub use fields::{
+    behind_mark, lone_natural, lone_number, natural_before, number_before, number_field,
+};
+pub use kinds::{LineKind, is_bare, kind};
 pub use lines::{Cut, LineCutter};
 pub use numbers::number;

@@ -1,11 +1,9 @@
 ghost use Rattle.std.specs.Prelude.{◌≡◌, ◌↔◌, ℕ, List, ◌++◌, ◌≤◌, [], Some, None, length, IfOk, IsSome, option_map, slice_range};
 
+use bfm_base::limits::LONGEST_LINE;
 use memchr::memchr;
 use std::alloc::{AllocError, Global};
 use std::marker::Model;
-
-/// The most bytes that a line may have, a carriage return counted and the newline not.
-const LIMIT: usize = 524_287;
 
 /// What the cutter found in a piece.
 #[derive(Clone, Copy, Debug, PartialEq, Eq)]
@@ -38,6 +36,7 @@ pub struct LineCutter {
 
 impl Model for LineCutter {
     ghost use Rattle.std.specs.Prelude.{◌≤◌, vec_len, vec_capacity};
+    ghost use Rattle.bfm_base.specs.declared.limits.TheConstants.{LONGEST_LINE};
     ghost use Rattle.bfm_lexer.specs.Cutter.{Cutter};
 
     ghost Value = { Cutter };
@@ -46,7 +45,7 @@ impl Model for LineCutter {
 
     ghost view = { λ c. record { pending = pending_in c.stage c.kept.items; line = line_in c.stage c.kept.items } };
 
-    ghost invariant = { λ c. (vec_len c.kept ≤ 524287) × (524287 ≤ vec_capacity c.kept) };
+    ghost invariant = { λ c. (vec_len c.kept ≤ LONGEST_LINE) × (LONGEST_LINE ≤ vec_capacity c.kept) };
 }
 
 impl LineCutter {
@@ -58,7 +57,7 @@ impl LineCutter {
         ensures { IfOk result (λ cutter. StandsFor cutter [] × (cutter.line ≡ None)) }
     {
         Ok(LineCutter {
-            kept: Vec::with_capacity(alloc, LIMIT)?,
+            kept: Vec::with_capacity(alloc, LONGEST_LINE)?,
             stage: Stage::Begun,
         })
     }
@@ -105,7 +104,7 @@ impl LineCutter {
             self.kept.clear();
             self.stage = Stage::Begun;
         }
-        if bytes.len() > LIMIT - self.kept.len() {
+        if bytes.len() > LONGEST_LINE - self.kept.len() {
             self.stage = Stage::TooLong;
         } else if let Stage::Begun = self.stage {
             self.kept.extend_from_slice(bytes).unwrap();

@@ -1,6 +1,9 @@
 ghost use Rattle.std.specs.Prelude.{◌<◌};
 
-use crate::{Cut, LineCutter, LineKind, kind, number};
+use crate::{
+    Cut, LineCutter, LineKind, behind_mark, kind, lone_natural, lone_number, natural_before,
+    number, number_before, number_field,
+};
 use bfm_base::Cause;
 use std::alloc::Global;
 use std::process::Abort;
@@ -76,6 +79,42 @@ fn numbers_of_half_a_million_digits(rt: HostRuntime) -> Result<(), Fail> {
         digits.extend_from_slice(end)?;
         assert_eq!(rt; number(&digits), want, "of {front} and {end:?}");
     }
+    Ok(())
+}
+
+#[test]
+fn fields_and_marks(rt: HostRuntime) -> Result<(), Fail> {
+    let (number, rest) = number_field(b" \t-7\t3 ").ok_or("no field")?;
+    assert_eq!(rt; number, -7);
+    assert_eq!(rt; rest, b"\t3 ".as_slice());
+    let (number, rest) = number_before(b':', b" -7 : 3:").ok_or("no number")?;
+    assert_eq!(rt; number, -7);
+    assert_eq!(rt; rest, b" 3:".as_slice());
+    let (number, rest) = natural_before(b'-', b"7\t--3").ok_or("no number")?;
+    assert_eq!(rt; number, 7);
+    assert_eq!(rt; rest, b"-3".as_slice());
+    let rest = behind_mark(b'=', b"\t =").ok_or("no mark")?;
+    assert!(rt; rest.is_empty());
+    assert!(rt; number_field(b" ").is_none());
+    assert!(rt; number_field(b"7:3").is_none());
+    assert!(rt; number_before(b':', b"7 3:1").is_none());
+    assert!(rt; number_before(b':', b"7").is_none());
+    assert!(rt; natural_before(b'-', b"-7-3").is_none());
+    assert!(rt; behind_mark(b'=', b"7=").is_none());
+    // The next number beyond 2^62 stands for all that are beyond.
+    let numbers: [(&[u8], Option<i64>); 6] = [
+        (b"\t4611686018427387904 ", Some(4_611_686_018_427_387_904)),
+        (b"4611686018427387906", Some(4_611_686_018_427_387_905)),
+        (b"-99999999999999999999", Some(-4_611_686_018_427_387_905)),
+        (b"7 3", None),
+        (b"7x", None),
+        (b"", None),
+    ];
+    for (text, want) in numbers {
+        assert_eq!(rt; lone_number(text), want, "of {text:?}");
+    }
+    assert_eq!(rt; lone_natural(b" 007 "), Some(7));
+    assert_eq!(rt; lone_natural(b"-7"), None);
     Ok(())
 }
 
