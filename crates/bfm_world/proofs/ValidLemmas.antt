@@ -1,5 +1,5 @@
 -- What is placed apart stays apart.
-use Rattle.std.proofs.Common.{◌≡◌, ℕ, zero, suc, ◌<◌, ◌≤◌, Bool, true, false, not, ◌&&◌, inl, inr, ◌≢◌, List, [], ◌∷◌, ◌++◌, length, get_or, remove, refl, ap, sym, ◌∙◌, subst, arith, AllPairs, length-append, replicate, ◌^◌}
+use Rattle.std.proofs.Common.{◌≡◌, ℕ, zero, suc, ◌<◌, ◌≤◌, Bool, true, false, not, ◌&&◌, inl, inr, ◌≢◌, List, [], ◌∷◌, ◌++◌, length, get_or, remove, refl, ap, sym, ◌∙◌, subst, arith, AllPairs, length-append}
 use Rattle.std.specs.Prelude.{slice_get}
 use Rattle.std.proofs.Math.ListN.{set}
 use Rattle.std.proofs.lemmas.List.{get_or-set_same, get_or-set_other, length-set, get_or_append_left}
@@ -12,10 +12,12 @@ use Rattle.bfm_base.specs.declared.place.Dir.{Dir}
 use Rattle.bfm_geom.specs.Difference.{overlaps}
 use Rattle.bfm_geom.proofs.DifferenceLemmas.{overlaps-symmetric}
 use Rattle.bfm_base.specs.Place.{extent_of}
-use Rattle.bfm_world.specs.Configuration.{Configuration, IsValid, is_clear, is_within_walls, is_legal, moved, target_of, may_bond, keeps_bonds, position_at, reach_of, greatest_reach}
+use Rattle.bfm_base.specs.declared.limits.TheConstants.{MOST_MONOMERS, WORLD_REACH}
+use Rattle.bfm_geom.specs.Walls.{is_within_walls}
+use Rattle.bfm_world.specs.Configuration.{Configuration, IsSound, IsValid, is_clear, is_legal, moved, target_of, may_bond, keeps_bonds, position_at, reach_of}
 use Rattle.bfm_world.proofs.BondLemmas.{and_left, and_right}
 use Rattle.bfm_world.proofs.ReachLemmas.{reach_of-set}
-use Rattle.bfm_world.specs.Draft.{Draft, IsSound, may_join}
+use Rattle.bfm_world.specs.Draft.{begun, may_join}
 use Rattle.bfm_world.specs.Bonds.{AreBonds, neighbours_of, are_bonded, is_full, with_bond}
 use Rattle.bfm_world.proofs.BondLemmas.{AreBonds-with_bond, AreBonds-none}
 use Rattle.bfm_world.proofs.VectorLemmas.{HasVectors-placed, HasVectors-moved, HasVectors-joined, may_reach-at}
@@ -81,49 +83,50 @@ IsValid-moved w i d v l h =
       symmetric = v.symmetric;
       some = omega (arith, length-set w.positions i (target_of w i d), v.some);
       few = omega (arith, length-set w.positions i (target_of w i d), v.few);
+      room = omega arith;
       inside = All-set (λ p. is_within_walls w.shape p ≡ true) w.positions i (target_of w i d) (and_left walls free both) v.inside;
       apart = pair_set (λ p q. overlaps w.shape p q ≡ false) w.positions i (target_of w i d)
-          (λ j e ne k. (clear j e ne k, overlaps-symmetric w.shape (target_of w i d) (get_or w.positions j e) v.box ∙ clear j e ne k)) v.apart l;
+          (λ j e ne k. (clear j e ne k, overlaps-symmetric w.shape (target_of w i d) (get_or w.positions j e) v.box.sides ∙ clear j e ne k)) v.apart l;
       bonds = subst (λ n. AreBonds n w.bonds) (sym (length-set w.positions i (target_of w i d))) v.bonds;
       vectors = HasVectors-moved w.shape w.set v.box v.set v.symmetric (length w.positions) w.positions w.bonds i (target_of w i d) v.bonds v.vectors l (and_right (walls && free) kept h);
     }
 
 -- what `World::shift` keeps, where w are the fields and v is the world that a caller sees
-pub shift_keeps : (w v : Configuration) (i : ℕ) (d : Dir) (t : P3) → w ≡ v → IsValid w → reach_of w.positions ≤ greatest_reach → i < length v.positions → is_legal v i d ≡ true
-    → extent_of (target_of v i d) ≤ greatest_reach → t ≡ target_of v i d
-    → IsValid (record w { positions = set w.positions i t }) × (reach_of (set w.positions i t) ≤ greatest_reach)
+pub shift_keeps : (w v : Configuration) (i : ℕ) (d : Dir) (t : P3) → w ≡ v → IsValid w → reach_of w.positions ≤ WORLD_REACH → i < length v.positions → is_legal v i d ≡ true
+    → extent_of (target_of v i d) ≤ WORLD_REACH → t ≡ target_of v i d
+    → IsValid (record w { positions = set w.positions i t }) × (reach_of (set w.positions i t) ≤ WORLD_REACH)
 shift_keeps w v i d t e valid reach l legal near is =
     let target : t ≡ target_of w i d = is ∙ ap (λ u. target_of u i d) (sym e) in
     let inside : i < length w.positions = subst (λ u. i < length u.positions) (sym e) l in
-    let near' : extent_of (target_of w i d) ≤ greatest_reach = subst (λ u. extent_of (target_of u i d) ≤ greatest_reach) (sym e) near in
-    subst (λ u. IsValid (record w { positions = set w.positions i u }) × (reach_of (set w.positions i u) ≤ greatest_reach)) (sym target)
+    let near' : extent_of (target_of w i d) ≤ WORLD_REACH = subst (λ u. extent_of (target_of u i d) ≤ WORLD_REACH) (sym e) near in
+    subst (λ u. IsValid (record w { positions = set w.positions i u }) × (reach_of (set w.positions i u) ≤ WORLD_REACH)) (sym target)
     (IsValid-moved w i d valid inside (subst (λ u. is_legal u i d ≡ true) (sym e) legal), omega (arith, reach_of-set w.positions i (target_of w i d)))
 
--- a monomer that is placed clear of the others and keeps its bonds leaves a sound draft
-pub IsSound-placed : (b : Draft) (p : P3) → IsSound b → length b.positions < b.count → is_within_walls b.shape p ≡ true → is_clear b.shape b.positions p ≡ true
-    → keeps_bonds b.shape b.set b.positions (neighbours_of b.bonds (length b.positions)) p ≡ true → IsSound (record b { positions = b.positions ++ p ∷ [] })
-IsSound-placed b p s l h k kept = record {
+-- a monomer that is placed clear of the others and keeps its bonds leaves a sound world
+pub IsSound-placed : (n : ℕ) (w : Configuration) (p : P3) → IsSound n w → length w.positions < n → is_within_walls w.shape p ≡ true → is_clear w.shape w.positions p ≡ true
+    → keeps_bonds w.shape w.set w.positions (neighbours_of w.bonds (length w.positions)) p ≡ true → IsSound n (record w { positions = w.positions ++ p ∷ [] })
+IsSound-placed n w p s l h k kept = record {
   box = s.box;
   set = s.set;
   symmetric = s.symmetric;
   some = s.some;
   few = s.few;
-  room = omega (arith, length-append b.positions (p ∷ []));
-  inside = All-push (λ q. is_within_walls b.shape q ≡ true) b.positions p s.inside h;
-  apart = pair_push (λ q r. overlaps b.shape q r ≡ false) b.positions p (clear_at b.shape b.positions p k) s.apart;
+  room = omega (arith, length-append w.positions (p ∷ []));
+  inside = All-push (λ q. is_within_walls w.shape q ≡ true) w.positions p s.inside h;
+  apart = pair_push (λ q r. overlaps w.shape q r ≡ false) w.positions p (clear_at w.shape w.positions p k) s.apart;
   bonds = s.bonds;
-  vectors = HasVectors-placed b.shape b.set s.box s.set s.symmetric b.count b.positions b.bonds p s.bonds s.vectors kept;
+  vectors = HasVectors-placed w.shape w.set s.box s.set s.symmetric n w.positions w.bonds p s.bonds s.vectors kept;
 }
 
-may_join-at : (b : Draft) (p q : List P3) (i j : ℕ) → may_join b (slice_get p i) (slice_get q j) ≡ true → i < length p → j < length q → may_bond b.shape b.set (position_at p i) (position_at q j) ≡ true
-may_join-at b [] q i j h l m = absurd (omega arith)
-may_join-at b (x ∷ xs) q zero j h l m = may_reach-at b.shape b.set q x j h m
-may_join-at b (x ∷ xs) q (suc i) j h l m = may_join-at b xs q i j h (omega arith) m
+may_join-at : (w : Configuration) (p q : List P3) (i j : ℕ) → may_join w (slice_get p i) (slice_get q j) ≡ true → i < length p → j < length q → may_bond w.shape w.set (position_at p i) (position_at q j) ≡ true
+may_join-at w [] q i j h l m = absurd (omega arith)
+may_join-at w (x ∷ xs) q zero j h l m = may_reach-at w.shape w.set q x j h m
+may_join-at w (x ∷ xs) q (suc i) j h l m = may_join-at w xs q i j h (omega arith) m
 
--- a draft with one bond more
-pub IsSound-joined : (b : Draft) (i j : ℕ) → IsSound b → i ≢ j → i < b.count → j < b.count → are_bonded b.bonds i j ≡ false → may_join b (slice_get b.positions i) (slice_get b.positions j) ≡ true
-    → is_full b.bonds i ≡ false → is_full b.bonds j ≡ false → IsSound (record b { bonds = with_bond b.bonds i j })
-IsSound-joined b i j s ne l m new may room_i room_j = record {
+-- a sound world with one bond more
+pub IsSound-joined : (n : ℕ) (w : Configuration) (i j : ℕ) → IsSound n w → i ≢ j → i < n → j < n → are_bonded w.bonds i j ≡ false → may_join w (slice_get w.positions i) (slice_get w.positions j) ≡ true
+    → is_full w.bonds i ≡ false → is_full w.bonds j ≡ false → IsSound n (record w { bonds = with_bond w.bonds i j })
+IsSound-joined n w i j s ne l m new may room_i room_j = record {
   box = s.box;
   set = s.set;
   symmetric = s.symmetric;
@@ -132,13 +135,12 @@ IsSound-joined b i j s ne l m new may room_i room_j = record {
   room = s.room;
   inside = s.inside;
   apart = s.apart;
-  bonds = AreBonds-with_bond b.count b.bonds i j s.bonds ne l m new room_i room_j;
-  vectors = HasVectors-joined b.shape b.set s.box s.set s.symmetric b.positions b.bonds i j s.vectors ne (omega (arith, s.bonds.rows)) (omega (arith, s.bonds.rows)) (may_join-at b b.positions b.positions i j may);
+  bonds = AreBonds-with_bond n w.bonds i j s.bonds ne l m new room_i room_j;
+  vectors = HasVectors-joined w.shape w.set s.box s.set s.symmetric w.positions w.bonds i j s.vectors ne (omega (arith, s.bonds.rows)) (omega (arith, s.bonds.rows)) (may_join-at w w.positions w.positions i j may);
 }
 
--- a draft in which nothing is placed and nobody is bonded
-pub IsSound-begun : (shape : Shape) (set : List (P3 × ℕ)) (n : ℕ) → IsBox shape → IsBondSet set → IsSymmetric set → 1 ≤ n → n ≤ 2 ^ 18
-    → IsSound (record { shape = shape; set = set; count = n; positions = []; bonds = replicate n [] })
+-- a world in which nothing is placed and nobody is bonded
+pub IsSound-begun : (shape : Shape) (set : List (P3 × ℕ)) (n : ℕ) → IsBox shape → IsBondSet set → IsSymmetric set → 1 ≤ n → n ≤ MOST_MONOMERS → IsSound n (begun shape set n).world
 IsSound-begun shape set n box bond_set symmetric some few = record {
   box = box;
   set = bond_set;
@@ -150,18 +152,4 @@ IsSound-begun shape set n box bond_set symmetric some few = record {
   apart = λ i j d l m. absurd (omega arith);
   bonds = AreBonds-none n;
   vectors = λ i j l m h. absurd (omega arith);
-}
-
--- a draft with each monomer placed is a valid world
-pub IsValid-from_sound : (b : Draft) → IsSound b → length b.positions ≡ b.count → IsValid (record { shape = b.shape; set = b.set; positions = b.positions; bonds = b.bonds })
-IsValid-from_sound b s e = record {
-  box = s.box;
-  set = s.set;
-  symmetric = s.symmetric;
-  some = omega (arith, e, s.some);
-  few = omega (arith, e, s.few);
-  inside = s.inside;
-  apart = s.apart;
-  bonds = subst (λ n. AreBonds n b.bonds) (sym e) s.bonds;
-  vectors = s.vectors;
 }

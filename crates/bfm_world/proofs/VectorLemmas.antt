@@ -32,9 +32,9 @@ wrapped_along-turned true side d e l is h =
 wrapped-turned : (shape : Shape) (p q : P3) → IsBox shape → extent_of (wrapped shape (minus q p)) ≤ 3 → wrapped shape (minus p q) ≡ negative_of (wrapped shape (minus q p))
 wrapped-turned shape p q box h =
     P3-same _ _
-    (wrapped_along-turned (is_periodic shape 0) (side_of shape 0) (q.x -ℤ p.x) (p.x -ℤ q.x) box.x.0 (omega (arith, ints)) (omega arith))
-    (wrapped_along-turned (is_periodic shape 1) (side_of shape 1) (q.y -ℤ p.y) (p.y -ℤ q.y) box.y.0 (omega (arith, ints)) (omega arith))
-    (wrapped_along-turned (is_periodic shape 2) (side_of shape 2) (q.z -ℤ p.z) (p.z -ℤ q.z) box.z.0 (omega (arith, ints)) (omega arith))
+    (wrapped_along-turned (is_periodic shape 0) (side_of shape 0) (q.x -ℤ p.x) (p.x -ℤ q.x) box.sides.x.0 (omega (arith, ints)) (omega arith))
+    (wrapped_along-turned (is_periodic shape 1) (side_of shape 1) (q.y -ℤ p.y) (p.y -ℤ q.y) box.sides.y.0 (omega (arith, ints)) (omega arith))
+    (wrapped_along-turned (is_periodic shape 2) (side_of shape 2) (q.z -ℤ p.z) (p.z -ℤ q.z) box.sides.z.0 (omega (arith, ints)) (omega arith))
 
 -- the set is symmetric, so a bond may be turned round
 pub may_bond-turned : (shape : Shape) (set : List (P3 × ℕ)) (p q : P3) → IsBox shape → IsBondSet set → IsSymmetric set → may_bond shape set p q ≡ true → may_bond shape set q p ≡ true

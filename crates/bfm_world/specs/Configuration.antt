@@ -1,15 +1,18 @@
 -- A world of monomers as plain data, when it is valid, and the local move in it (Carmesin and
 -- Kremer 1988). Monomers are counted from 0.
-use Rattle.std.specs.Prelude.{◌≡◌, ℕ, ◌+◌, ◌^◌, ◌<◌, ◌≤◌, max, Bool, true, false, not, ◌&&◌, nat_le, ℤ, pos, negsuc, List, [], ◌∷◌, length, slice_index_or, slice_get, slice_set, remove, All, AllPairs, Option, None, Some, is_some}
+use Rattle.std.specs.Prelude.{◌≡◌, ℕ, ◌<◌, ◌≤◌, max, Bool, true, false, not, ◌&&◌, pos, List, [], ◌∷◌, length, slice_index_or, slice_get, slice_set, remove, All, AllPairs, Option, None, Some, is_some}
 use Rattle.std.specs.List.{list_all}
+use Rattle.bfm_base.specs.declared.limits.TheConstants.{MOST_MONOMERS}
 use Rattle.bfm_base.specs.declared.place.P3.{P3}
 use Rattle.bfm_base.specs.declared.place.Dir.{Dir}
 use Rattle.bfm_base.specs.declared.place.Shape.{Shape}
 use Rattle.bfm_base.specs.Direction.{step_of}
 use Rattle.bfm_base.specs.Place.{extent_of}
-use Rattle.bfm_geom.specs.Difference.{side_of, is_periodic, IsBox, plus, minus, wrapped, overlaps}
+use Rattle.bfm_geom.specs.Difference.{IsBox, plus, minus, wrapped, overlaps}
+use Rattle.bfm_geom.specs.Walls.{is_within_walls}
 use Rattle.bond_set.specs.BondSet.{IsBondSet, IsSymmetric, id_of}
 use Rattle.bfm_world.specs.Bonds.{AreBonds, neighbours_of, are_bonded}
+use Rattle.bfm_world.specs.declared.parts.Parts.{Parts}
 
 -- the box, the set of bond vectors with their identifiers, the position of each monomer, and the bonds
 pub record Configuration : Type 0 where
@@ -18,17 +21,9 @@ pub record Configuration : Type 0 where
   pub positions : List P3
   pub bonds : List (List ℕ)
 
--- A coordinate along a walled axis leaves room for the two sites of the monomer.
-abbrev pub is_within_walls_along : Bool → ℕ → ℤ → Bool
-is_within_walls_along true side c = true
-is_within_walls_along false side (pos c) = nat_le (c + 2) side
-is_within_walls_along false side (negsuc c) = false
-
-abbrev pub is_within_walls : Shape → P3 → Bool
-is_within_walls shape p =
-    is_within_walls_along (is_periodic shape 0) (side_of shape 0) p.x
-    && is_within_walls_along (is_periodic shape 1) (side_of shape 1) p.y
-    && is_within_walls_along (is_periodic shape 2) (side_of shape 2) p.z
+-- what the parts of a world hold
+abbrev pub configuration_of : Parts → Configuration
+configuration_of parts = record { shape = parts.shape; set = parts.set; positions = parts.positions.items; bonds = parts.bonds }
 
 -- a monomer at p overlaps none at these positions
 abbrev pub is_clear : Shape → List P3 → P3 → Bool
@@ -47,7 +42,7 @@ may_reach shape set p (Some q) = may_bond shape set p q
 abbrev pub keeps_bonds : Shape → List (P3 × ℕ) → List P3 → List ℕ → P3 → Bool
 keeps_bonds shape set positions neighbours p = list_all (λ j. may_reach shape set p (slice_get positions j)) neighbours
 
--- the position at a place of the list
+-- the position with this number in the list
 abbrev pub position_at : List P3 → ℕ → P3
 position_at positions i = slice_index_or positions i (record { x = pos 0; y = pos 0; z = pos 0 })
 
@@ -56,27 +51,28 @@ abbrev pub HasVectors : Shape → List (P3 × ℕ) → List P3 → List (List �
 HasVectors shape set positions bonds =
     (i j : ℕ) → i < length positions → j < length positions → are_bonded bonds i j ≡ true → may_bond shape set (position_at positions i) (position_at positions j) ≡ true
 
--- Each monomer is within the walls, no two overlap, and each bond has a vector of the set, which holds the
--- negative of each of its vectors.
-pub record IsValid (w : Configuration) : Type 0 where
+-- A world of so many monomers, not all of which need have positions yet: those that have are within the walls and do
+-- not overlap, and each bond between them has a vector of the set, which holds the negative of each of its vectors.
+pub record IsSound (count : ℕ) (w : Configuration) : Type 0 where
   pub box : IsBox w.shape
   pub set : IsBondSet w.set
   pub symmetric : IsSymmetric w.set
-  pub some : 1 ≤ length w.positions
-  pub few : length w.positions ≤ 2 ^ 18
+  pub some : 1 ≤ count
+  pub few : count ≤ MOST_MONOMERS
+  pub room : length w.positions ≤ count
   pub inside : All (λ p. is_within_walls w.shape p ≡ true) w.positions
   pub apart : AllPairs (λ p q. overlaps w.shape p q ≡ false) w.positions
-  pub bonds : AreBonds (length w.positions) w.bonds
+  pub bonds : AreBonds count w.bonds
   pub vectors : HasVectors w.shape w.set w.positions w.bonds
+
+-- the same where each monomer has its position
+abbrev pub IsValid : Configuration → Type 0
+IsValid w = IsSound (length w.positions) w
 
 -- the greatest absolute coordinate of a list of places
 abbrev pub reach_of : List P3 → ℕ
 reach_of [] = 0
 reach_of (p ∷ ps) = max (extent_of p) (reach_of ps)
-
--- how far a monomer may ever be from the origin
-abbrev pub greatest_reach : ℕ
-greatest_reach = 2 ^ 44 + 2 ^ 20
 
 -- where monomer i stands, and where it would stand after a step
 abbrev pub position_of : Configuration → ℕ → P3

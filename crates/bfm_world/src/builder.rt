@@ -1,15 +1,17 @@
-ghost use Rattle.std.specs.Prelude.{◌≡◌, ◌≢◌, ◌↔◌, ℕ, ◌+◌, ◌^◌, ◌<◌, ◌≤◌, true, [], ◌∷◌, ◌++◌, length, replicate, nat_eq, slice_get, Ok, IfOk, OnOk, OnErr, MatchOption};
+ghost use Rattle.std.specs.Prelude.{◌≡◌, ◌≢◌, ◌↔◌, ℕ, ◌<◌, ◌≤◌, true, [], ◌∷◌, ◌++◌, length, nat_eq, slice_get, Ok, IfOk, OnOk, OnErr, MatchOption};
 ghost use Rattle.std.specs.List.{Contains, IsDistinct};
 ghost use Rattle.bfm_base.specs.Place.{extent_of};
 ghost use Rattle.bfm_geom.specs.Difference.{IsBox};
 ghost use Rattle.bond_set.specs.BondSet.{IsBondSet, IsSymmetric};
-ghost use Rattle.bfm_world.specs.Bonds.{are_bonded, with_bond, most_bonds};
-ghost use Rattle.bfm_world.specs.Configuration.{IsValid, greatest_reach};
-ghost use Rattle.bfm_world.specs.Draft.{IsSound, place_refusal, may_join, join_answer};
+ghost use Rattle.bfm_world.specs.Bonds.{are_bonded, with_bond};
+ghost use Rattle.bfm_world.specs.Configuration.{IsSound, IsValid};
+ghost use Rattle.bfm_world.specs.Draft.{begun, with_positions, with_bonds, place_refusal, may_join, join_answer, IsJoined};
 
 use crate::bonds::Bonds;
+use crate::parts::Parts;
 use crate::room::{is_clear, is_within_walls, keeps_bonds, may_reach, position_in};
 use crate::world::World;
+use bfm_base::limits::{MOST_BONDS, MOST_MONOMERS, WORLD_REACH};
 use bfm_base::{Cause, P3, Shape};
 use bond_set::BondSet;
 use std::alloc::{AllocError, Global};
@@ -19,26 +21,24 @@ use std::marker::Model;
 /// placed or after it.
 #[derive(Drop)]
 pub struct WorldBuilder {
-    shape: Shape,
-    set: BondSet,
+    parts: Parts,
     count: u32,
-    positions: Vec<P3>,
-    bonds: Bonds,
 }
 
 impl Model for WorldBuilder {
     ghost use Rattle.std.specs.Prelude.{◌≤◌, vec_capacity};
-    ghost use Rattle.bfm_world.specs.Configuration.{reach_of, greatest_reach};
-    ghost use Rattle.bfm_world.specs.Draft.{Draft, IsSound};
+    ghost use Rattle.bfm_base.specs.declared.limits.TheConstants.{WORLD_REACH};
+    ghost use Rattle.bfm_world.specs.Configuration.{configuration_of, reach_of, IsSound};
+    ghost use Rattle.bfm_world.specs.Draft.{Draft};
 
     ghost Value = { Draft };
 
-    ghost view = { λ b. record { shape = b.shape; set = b.set; count = b.count; positions = b.positions.items; bonds = b.bonds } };
+    ghost view = { λ b. record { world = configuration_of b.parts; count = b.count } };
 
     ghost invariant = { λ b.
-        IsSound (record { shape = b.shape; set = b.set; count = b.count; positions = b.positions.items; bonds = b.bonds })
-        × (reach_of b.positions.items ≤ greatest_reach)
-        × (b.count ≤ vec_capacity b.positions) };
+        IsSound b.count (configuration_of b.parts)
+        × (reach_of b.parts.positions.items ≤ WORLD_REACH)
+        × (b.count ≤ vec_capacity b.parts.positions) };
 }
 
 impl WorldBuilder {
@@ -53,90 +53,97 @@ impl WorldBuilder {
         requires set { IsBondSet set }
         requires finished { IsSymmetric set }
         requires some { 1 ≤ n }
-        requires few { n ≤ 2 ^ 18 }
-        ensures { IfOk result (λ builder. builder ≡ record { shape = shape; set = set; count = n; positions = []; bonds = replicate n [] }) }
+        requires few { n ≤ MOST_MONOMERS }
+        ensures { IfOk result (λ builder. builder ≡ begun shape set n) }
     {
         Ok(WorldBuilder {
-            shape,
-            set,
+            parts: Parts {
+                shape,
+                set,
+                positions: Vec::with_capacity(alloc, n as usize)?,
+                bonds: Bonds::new(alloc, n)?,
+            },
             count: n,
-            positions: Vec::with_capacity(alloc, n as usize)?,
-            bonds: Bonds::new(alloc, n)?,
         })
     }
 
     /// How many monomers the world will have. Whatever a builder holds is sound.
     pub fn count(&self) -> u32
         ensures count { result ≡ self.now.count }
-        ensures sound { IsSound self.now }
+        ensures sound { IsSound self.now.count self.now.world }
     {
         self.count
     }
 
     /// How many monomers have been placed.
     pub fn placed(&self) -> usize
-        ensures { result ≡ length self.now.positions }
+        ensures { result ≡ length self.now.world.positions }
     {
-        self.positions.len()
+        self.parts.positions.len()
     }
 
-    /// The box.
     pub fn shape(&self) -> Shape
-        ensures shape { result ≡ self.now.shape }
+        ensures shape { result ≡ self.now.world.shape }
         ensures limits { IsBox result }
     {
-        self.shape
+        self.parts.shape
     }
 
-    /// The set of bond vectors.
     pub fn set(&self) -> &BondSet
-        ensures { result.now ≡ self.now.set }
+        ensures { result.now ≡ self.now.world.set }
     {
-        &self.set
+        &self.parts.set
     }
 
     /// The monomers that a monomer is bonded to, each once. They may not have positions yet.
     pub fn neighbours(&self, i: u32) -> &[u32]
         requires { i < self.now.count }
-        ensures listed { (j : ℕ) → Contains result.now j ↔ (are_bonded self.now.bonds i j ≡ true) }
+        ensures listed { (j : ℕ) → Contains result.now j ↔ (are_bonded self.now.world.bonds i j ≡ true) }
         ensures each_once { IsDistinct nat_eq result.now }
-        ensures few { length result.now ≤ most_bonds }
+        ensures few { length result.now ≤ MOST_BONDS }
     {
-        self.bonds.neighbours(i)
+        self.parts.bonds.neighbours(i)
     }
 
     /// Whether two monomers are bonded.
     pub fn bonded(&self, i: u32, j: u32) -> bool
         requires first { i < self.now.count }
         requires second { j < self.now.count }
-        ensures { result ≡ are_bonded self.now.bonds i j }
+        ensures { result ≡ are_bonded self.now.world.bonds i j }
     {
-        self.bonds.are_bonded(i, j)
+        self.parts.bonds.are_bonded(i, j)
     }
 
     /// Gives the next monomer its position. It is refused with `Outside` beyond a wall, else with
     /// `Overlap` where it would overlap a monomer that is placed, else with `BadBond` where a bond
     /// to a monomer that is placed would have no vector of the set; nothing changes then.
     pub fn place(&mut self, p: P3) -> Result<(), Cause>
-        requires room { length self.old.positions < self.old.count }
-        requires reach { extent_of p ≤ greatest_reach }
-        ensures answer { MatchOption (place_refusal self.old p)
+        requires room { length self.old.world.positions < self.old.count }
+        requires reach { extent_of p ≤ WORLD_REACH }
+        ensures answer { MatchOption (place_refusal self.old.world p)
             (result ≡ Ok tt) (λ cause. result ≡ Err cause) }
-        ensures ok { OnOk result (self.new ≡ record self.old { positions = self.old.positions ++ p ∷ [] }) }
+        ensures ok { OnOk result (self.new ≡ with_positions self.old (self.old.world.positions ++ p ∷ [])) }
         ensures err { OnErr result (self.new ≡ self.old) }
-        ensures sound { IsSound self.new }
+        ensures sound { IsSound self.new.count self.new.world }
     {
-        if !is_within_walls(&self.shape, p) {
+        let next = self.parts.positions.len() as u32;
+        if !is_within_walls(&self.parts.shape, p) {
             return Err(Cause::Outside);
         }
-        if !is_clear(&self.shape, &self.positions, p) {
+        if !is_clear(&self.parts.shape, &self.parts.positions, p) {
             return Err(Cause::Overlap);
         }
-        let neighbours = self.bonds.neighbours(self.positions.len() as u32);
-        if !keeps_bonds(&self.shape, &self.set, &self.positions, neighbours, p) {
+        let neighbours = self.parts.bonds.neighbours(next);
+        if !keeps_bonds(
+            &self.parts.shape,
+            &self.parts.set,
+            &self.parts.positions,
+            neighbours,
+            p,
+        ) {
             return Err(Cause::BadBond);
         }
-        self.positions.push(p).unwrap();
+        self.parts.positions.push(p).unwrap();
         Ok(())
     }
 
@@ -146,49 +153,52 @@ impl WorldBuilder {
     /// difference is not in the set, else with `TooManyBonds` where one of them has 8 bonds.
     pub fn join(&mut self, i: u32, j: u32) -> Result<bool, Cause>
         ensures answer { result ≡ join_answer self.old i j }
-        ensures joined { result ≡ Ok true → self.new ≡ record self.old { bonds = with_bond self.old.bonds i j } }
+
+        // A new bond is there from both ends, and it is all that is new.
+        ensures joined { result ≡ Ok true → IsJoined i j self.old self.new }
+        ensures exact { result ≡ Ok true → self.new ≡ with_bonds self.old (with_bond self.old.world.bonds i j) }
         ensures same { result ≢ Ok true → self.new ≡ self.old }
-        ensures sound { IsSound self.new }
+        ensures sound { IsSound self.new.count self.new.world }
     {
         if i == j || i >= self.count || j >= self.count {
             return Err(Cause::BadMonomer);
         }
-        if self.bonds.are_bonded(i, j) {
+        if self.parts.bonds.are_bonded(i, j) {
             return Ok(false);
         }
         if !self.may_join(i, j) {
             return Err(Cause::BadBond);
         }
-        if self.bonds.is_full(i) || self.bonds.is_full(j) {
+        if self.parts.bonds.is_full(i) || self.parts.bonds.is_full(j) {
             return Err(Cause::TooManyBonds);
         }
-        self.bonds.join(i, j);
+        self.parts.bonds.join(i, j);
         Ok(true)
     }
 
     /// Whether a bond may run between two monomers, where both are placed.
     fn may_join(&self, i: u32, j: u32) -> bool
-        ensures { result ≡ may_join self.now (slice_get self.now.positions i) (slice_get self.now.positions j) }
+        ensures { result ≡ may_join self.now.world (slice_get self.now.world.positions i) (slice_get self.now.world.positions j) }
     {
-        match position_in(&self.positions, i) {
-            Some(p) => may_reach(&self.shape, &self.set, p, position_in(&self.positions, j)),
+        let positions = &self.parts.positions;
+        match position_in(positions, i) {
+            Some(p) => may_reach(
+                &self.parts.shape,
+                &self.parts.set,
+                p,
+                position_in(positions, j),
+            ),
             None => true,
         }
     }
 
     /// The world, where each monomer is placed.
     pub fn finish(self) -> World
-        requires { length self.positions ≡ self.count }
-        ensures world { result ≡ record { shape = self.shape; set = self.set; positions = self.positions; bonds = self.bonds } }
+        requires { length self.world.positions ≡ self.count }
+        ensures world { result ≡ self.world }
         ensures valid { IsValid result }
     {
-        let WorldBuilder {
-            shape,
-            set,
-            positions,
-            bonds,
-            ..
-        } = self;
-        World::of_parts(shape, set, positions, bonds)
+        let WorldBuilder { parts, .. } = self;
+        World::of_parts(parts)
     }
 }

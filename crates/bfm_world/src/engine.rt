@@ -1,8 +1,9 @@
 ghost use Rattle.std.specs.Prelude.{◌≡◌, ◌<◌, length, if◌then◌else◌};
-ghost use Rattle.bfm_world.specs.Configuration.{Configuration, is_legal, moved, reach_of, greatest_reach};
+ghost use Rattle.bfm_world.specs.Configuration.{Configuration, is_legal, moved, reach_of};
 
 use crate::world::World;
 use bfm_base::Dir;
+use bfm_base::limits::WORLD_REACH;
 
 /// What makes attempts at local moves in a world, by whatever data of its own.
 pub trait Engine {
@@ -17,7 +18,7 @@ pub trait Engine {
     /// the threshold.
     fn attempt(&mut self, monomer: u32, dir: Dir, word: u32) -> bool
         requires monomer { monomer < length (configuration self.old).positions }
-        requires reach { reach_of (configuration self.old).positions < greatest_reach }
+        requires reach { reach_of (configuration self.old).positions < WORLD_REACH }
         ensures made { result ≡ is_legal (configuration self.old) monomer dir }
         ensures world { configuration self.new
             ≡ (if is_legal (configuration self.old) monomer dir then moved (configuration self.old) monomer dir else configuration self.old) };

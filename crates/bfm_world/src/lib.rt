@@ -9,6 +9,7 @@
 mod bonds;
 mod builder;
 mod engine;
+mod parts;
 mod room;
 #[cfg(test)]
 mod tests;

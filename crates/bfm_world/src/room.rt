@@ -1,7 +1,9 @@
-ghost use Rattle.std.specs.Prelude.{◌≡◌, ◌+◌, ◌^◌, ◌≤◌, Bool, true, false, slice_get, IfSome};
+ghost use Rattle.std.specs.Prelude.{◌≡◌, ◌+◌, ◌≤◌, Bool, true, false, slice_get, IfSome};
 ghost use Rattle.bfm_geom.specs.Difference.{IsBox, IsWithin};
-ghost use Rattle.bfm_world.specs.Configuration.{is_within_walls_along, is_within_walls, is_clear, may_bond, may_reach, keeps_bonds, reach_of};
+ghost use Rattle.bfm_geom.specs.Walls.{is_within_walls_along, is_within_walls};
+ghost use Rattle.bfm_world.specs.Configuration.{is_clear, may_bond, may_reach, keeps_bonds, reach_of};
 
+use bfm_base::limits::PLACE_REACH;
 use bfm_base::{P3, Shape};
 use bfm_geom::{overlap, plain_difference, wrap};
 use bond_set::BondSet;
@@ -27,8 +29,8 @@ pub fn is_within_walls(shape: &Shape, p: P3) -> bool
 /// Whether a monomer at a place overlaps none at the other positions.
 pub fn is_clear(shape: &Shape, others: &[P3], p: P3) -> bool
     requires shape { IsBox shape.now }
-    requires others { reach_of others.now ≤ 2 ^ 45 }
-    requires place { IsWithin (2 ^ 45) p }
+    requires others { reach_of others.now ≤ PLACE_REACH }
+    requires place { IsWithin PLACE_REACH p }
     ensures { result ≡ is_clear shape.now others.now p }
 {
     for other in others {
@@ -42,8 +44,8 @@ pub fn is_clear(shape: &Shape, others: &[P3], p: P3) -> bool
 /// Whether a bond may run from one place to another: their wrapped difference is in the set.
 pub fn may_bond(shape: &Shape, set: &BondSet, p: P3, q: P3) -> bool
     requires shape { IsBox shape.now }
-    requires from { IsWithin (2 ^ 45) p }
-    requires to { IsWithin (2 ^ 45) q }
+    requires from { IsWithin PLACE_REACH p }
+    requires to { IsWithin PLACE_REACH q }
     ensures { result ≡ may_bond shape.now set.now p q }
 {
     set.id_of(wrap(shape, plain_difference(p, q))).is_some()
@@ -58,8 +60,8 @@ pub fn keeps_bonds(
     p: P3,
 ) -> bool
     requires shape { IsBox shape.now }
-    requires positions { reach_of positions.now ≤ 2 ^ 45 }
-    requires place { IsWithin (2 ^ 45) p }
+    requires positions { reach_of positions.now ≤ PLACE_REACH }
+    requires place { IsWithin PLACE_REACH p }
     ensures { result ≡ keeps_bonds shape.now set.now positions.now neighbours.now p }
 {
     for neighbour in neighbours {
@@ -80,8 +82,8 @@ pub(crate) fn position_in(positions: &[P3], i: u32) -> Option<P3>
 /// Whether a bond may run from a place to another, where there is another.
 pub(crate) fn may_reach(shape: &Shape, set: &BondSet, p: P3, q: Option<P3>) -> bool
     requires shape { IsBox shape.now }
-    requires from { IsWithin (2 ^ 45) p }
-    requires to { IfSome q (IsWithin (2 ^ 45)) }
+    requires from { IsWithin PLACE_REACH p }
+    requires to { IfSome q (IsWithin PLACE_REACH) }
     ensures { result ≡ may_reach shape.now set.now p q }
 {
     match q {

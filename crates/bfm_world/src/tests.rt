@@ -1,6 +1,7 @@
-ghost use Rattle.std.specs.Prelude.{◌≡◌, ◌^◌, ◌≤◌, [], IfOk};
+ghost use Rattle.std.specs.Prelude.{◌≡◌, ◌≤◌, [], IfOk};
 
 use crate::WorldBuilder;
+use bfm_base::limits::MOST_MONOMERS;
 use bfm_base::{Cause, Dir, P3, Shape};
 use bond_set::BondSet;
 use std::alloc::{AllocError, Global};
@@ -21,9 +22,9 @@ fn at(place: [i64; 3]) -> P3 {
 // Begins a world of `n` monomers in that box, with the usual set.
 fn begun(alloc: Global, n: u32) -> Result<WorldBuilder, AllocError>
     requires some { 1 ≤ n }
-    requires few { n ≤ 2 ^ 18 }
+    requires few { n ≤ MOST_MONOMERS }
     ensures count { IfOk result (λ builder. builder.count ≡ n) }
-    ensures empty { IfOk result (λ builder. builder.positions ≡ []) }
+    ensures empty { IfOk result (λ builder. builder.world.positions ≡ []) }
 {
     let set = BondSet::usual(alloc)?;
     WorldBuilder::new(alloc, BOX, set, n)
@@ -154,7 +155,7 @@ const KEPT: [([i64; 3], bool); 6] = [
 // Begins a world of three monomers in a chain.
 fn chained(rt: &impl Abort, alloc: Global) -> Result<WorldBuilder, AllocError>
     ensures count { IfOk result (λ builder. builder.count ≡ 3) }
-    ensures empty { IfOk result (λ builder. builder.positions ≡ []) }
+    ensures empty { IfOk result (λ builder. builder.world.positions ≡ []) }
 {
     let mut builder = begun(alloc, 3)?;
     assert!(rt; builder.join(1, 2) == Ok(true));

@@ -3,11 +3,12 @@ ghost use Rattle.std.specs.List.{Contains, IsDistinct};
 ghost use Rattle.bfm_base.specs.Direction.{step_of};
 ghost use Rattle.bfm_base.specs.Place.{extent_of};
 ghost use Rattle.bfm_geom.specs.Difference.{IsBox, plus};
-ghost use Rattle.bfm_world.specs.Bonds.{neighbours_of, are_bonded, most_bonds};
-ghost use Rattle.bfm_world.specs.Configuration.{IsValid, position_of, target_of, is_legal, keeps_bonds, moved, reach_of, greatest_reach};
+ghost use Rattle.bfm_world.specs.Bonds.{neighbours_of, are_bonded};
+ghost use Rattle.bfm_world.specs.Configuration.{configuration_of, IsValid, position_of, target_of, is_legal, keeps_bonds, moved, reach_of};
 
-use crate::bonds::Bonds;
+use crate::parts::Parts;
 use crate::room;
+use bfm_base::limits::{MOST_BONDS, WORLD_REACH};
 use bfm_base::{Dir, P3, Shape};
 use bfm_geom::shifted;
 use bond_set::BondSet;
@@ -18,23 +19,19 @@ use std::marker::Model;
 /// are at most 2^44 + 2^20 in absolute value.
 #[derive(Drop)]
 pub struct World {
-    shape: Shape,
-    set: BondSet,
-    positions: Vec<P3>,
-    bonds: Bonds,
+    parts: Parts,
 }
 
 impl Model for World {
     ghost use Rattle.std.specs.Prelude.{◌≤◌};
-    ghost use Rattle.bfm_world.specs.Configuration.{Configuration, IsValid, reach_of, greatest_reach};
+    ghost use Rattle.bfm_base.specs.declared.limits.TheConstants.{WORLD_REACH};
+    ghost use Rattle.bfm_world.specs.Configuration.{Configuration, configuration_of, IsValid, reach_of};
 
     ghost Value = { Configuration };
 
-    ghost view = { λ w. record { shape = w.shape; set = w.set; positions = w.positions.items; bonds = w.bonds } };
+    ghost view = { λ w. configuration_of w.parts };
 
-    ghost invariant = { λ w.
-        IsValid (record { shape = w.shape; set = w.set; positions = w.positions.items; bonds = w.bonds })
-        × (reach_of w.positions.items ≤ greatest_reach) };
+    ghost invariant = { λ w. IsValid (configuration_of w.parts) × (reach_of w.parts.positions.items ≤ WORLD_REACH) };
 }
 
 /// The greatest absolute coordinate of these places, 0 where there are none.
@@ -49,58 +46,51 @@ fn reach_of(positions: &[P3]) -> u64
 }
 
 impl World {
-    pub(crate) fn of_parts(shape: Shape, set: BondSet, positions: Vec<P3>, bonds: Bonds) -> World
-        requires valid { IsValid (record { shape = shape; set = set; positions = positions.items; bonds = bonds }) }
-        requires reach { reach_of positions.items ≤ greatest_reach }
-        ensures { result ≡ record { shape = shape; set = set; positions = positions.items; bonds = bonds } }
+    pub(crate) fn of_parts(parts: Parts) -> World
+        requires valid { IsValid (configuration_of parts) }
+        requires reach { reach_of parts.positions.items ≤ WORLD_REACH }
+        ensures { result ≡ configuration_of parts }
     {
-        World {
-            shape,
-            set,
-            positions,
-            bonds,
-        }
+        World { parts }
     }
 
-    /// The box.
     pub fn shape(&self) -> Shape
         ensures shape { result ≡ self.now.shape }
         ensures limits { IsBox result }
     {
-        self.shape
+        self.parts.shape
     }
 
-    /// The set of bond vectors.
     pub fn set(&self) -> &BondSet
         ensures { result.now ≡ self.now.set }
     {
-        &self.set
+        &self.parts.set
     }
 
     /// The number of monomers, 1 to 2^18. Whatever a world holds is valid.
     pub fn len(&self) -> u32
         ensures count { result ≡ length self.now.positions }
         ensures valid { IsValid self.now }
-        ensures reach { reach_of self.now.positions ≤ greatest_reach }
+        ensures reach { reach_of self.now.positions ≤ WORLD_REACH }
     {
-        self.positions.len() as u32
+        self.parts.positions.len() as u32
     }
 
     /// The positions of all monomers, in order.
     pub fn positions(&self) -> &[P3]
         ensures positions { result.now ≡ self.now.positions }
-        ensures reach { reach_of result.now ≤ greatest_reach }
+        ensures reach { reach_of result.now ≤ WORLD_REACH }
     {
-        &self.positions
+        &self.parts.positions
     }
 
     /// The position of a monomer, counted from 0.
     pub fn position(&self, i: u32) -> P3
         requires { i < length self.now.positions }
         ensures position { result ≡ position_of self.now i }
-        ensures reach { extent_of result ≤ greatest_reach }
+        ensures reach { extent_of result ≤ WORLD_REACH }
     {
-        self.positions[i as usize]
+        self.parts.positions[i as usize]
     }
 
     /// The monomers that a monomer is bonded to, each once.
@@ -108,9 +98,9 @@ impl World {
         requires { i < length self.now.positions }
         ensures listed { (j : ℕ) → Contains result.now j ↔ (are_bonded self.now.bonds i j ≡ true) }
         ensures each_once { IsDistinct nat_eq result.now }
-        ensures few { length result.now ≤ most_bonds }
+        ensures few { length result.now ≤ MOST_BONDS }
     {
-        self.bonds.neighbours(i)
+        self.parts.bonds.neighbours(i)
     }
 
     /// Whether two monomers are bonded.
@@ -119,31 +109,37 @@ impl World {
         requires second { j < length self.now.positions }
         ensures { result ≡ are_bonded self.now.bonds i j }
     {
-        self.bonds.are_bonded(i, j)
+        self.parts.bonds.are_bonded(i, j)
     }
 
     /// Whether each bond of a monomer would have a vector of the set if it stood at a place.
     pub fn keeps_bonds(&self, i: u32, p: P3) -> bool
         requires monomer { i < length self.now.positions }
-        requires place { extent_of p ≤ greatest_reach + 1 }
+        requires place { extent_of p ≤ WORLD_REACH + 1 }
         ensures { result ≡ keeps_bonds self.now.shape self.now.set self.now.positions (neighbours_of self.now.bonds i) p }
     {
-        let neighbours = self.bonds.neighbours(i);
-        room::keeps_bonds(&self.shape, &self.set, &self.positions, neighbours, p)
+        let neighbours = self.parts.bonds.neighbours(i);
+        room::keeps_bonds(
+            &self.parts.shape,
+            &self.parts.set,
+            &self.parts.positions,
+            neighbours,
+            p,
+        )
     }
 
     /// The greatest absolute coordinate of any monomer, in lattice units.
     pub fn reach(&self) -> i64
         ensures { result ≡ pos (reach_of self.now.positions) }
     {
-        reach_of(&self.positions) as i64
+        reach_of(&self.parts.positions) as i64
     }
 
     /// Where a monomer would stand after a step of one lattice unit.
     pub fn target(&self, i: u32, dir: Dir) -> P3
         requires { i < length self.now.positions }
         ensures target { result ≡ target_of self.now i dir }
-        ensures reach { extent_of result ≤ greatest_reach + 1 }
+        ensures reach { extent_of result ≤ WORLD_REACH + 1 }
     {
         shifted(self.position(i), dir.step())
     }
@@ -152,10 +148,10 @@ impl World {
     pub fn shift(&mut self, i: u32, dir: Dir)
         requires monomer { i < length self.old.positions }
         requires legal { is_legal self.old i dir ≡ true }
-        requires reach { extent_of (target_of self.old i dir) ≤ greatest_reach }
+        requires reach { extent_of (target_of self.old i dir) ≤ WORLD_REACH }
         ensures { self.new ≡ moved self.old i dir }
     {
         let target = self.target(i, dir);
-        self.positions[i as usize] = target;
+        self.parts.positions[i as usize] = target;
     }
 }

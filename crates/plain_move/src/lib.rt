@@ -9,8 +9,9 @@ mod tests;
 ghost use Rattle.std.specs.Prelude.{◌≡◌, ◌+◌, ◌<◌, ◌≤◌, length, remove};
 ghost use Rattle.bfm_base.specs.Place.{extent_of};
 ghost use Rattle.bfm_geom.specs.Difference.{IsBox};
-ghost use Rattle.bfm_world.specs.Configuration.{is_legal, is_clear, reach_of, greatest_reach};
+ghost use Rattle.bfm_world.specs.Configuration.{is_legal, is_clear, reach_of};
 
+use bfm_base::limits::WORLD_REACH;
 use bfm_base::{Dir, P3, Shape};
 use bfm_world::{Engine, World, is_clear, is_within_walls};
 use std::marker::Model;
@@ -54,7 +55,7 @@ impl Engine for PlainEngine {
     }
 
     fn attempt(&mut self, monomer: u32, dir: Dir, _word: u32) -> bool {
-        if !may_step(&self.world, monomer, dir) {
+        if !is_legal(&self.world, monomer, dir) {
             return false;
         }
         self.world.shift(monomer, dir);
@@ -64,7 +65,7 @@ impl Engine for PlainEngine {
 
 /// Whether the step is legal: within the walls, clear of each other monomer, and with a vector of
 /// the set for each bond.
-fn may_step(world: &World, monomer: u32, dir: Dir) -> bool
+fn is_legal(world: &World, monomer: u32, dir: Dir) -> bool
     requires { monomer < length world.now.positions }
     ensures { result ≡ is_legal world.now monomer dir }
 {
@@ -78,8 +79,8 @@ fn may_step(world: &World, monomer: u32, dir: Dir) -> bool
 /// Whether a place is clear of all monomers but one.
 fn is_clear_of_others(shape: &Shape, positions: &[P3], monomer: usize, p: P3) -> bool
     requires shape { IsBox shape.now }
-    requires reach { reach_of positions.now ≤ greatest_reach }
-    requires place { extent_of p ≤ greatest_reach + 1 }
+    requires reach { reach_of positions.now ≤ WORLD_REACH }
+    requires place { extent_of p ≤ WORLD_REACH + 1 }
     requires monomer { monomer < length positions.now }
     ensures { result ≡ is_clear shape.now (remove positions.now monomer) p }
 {

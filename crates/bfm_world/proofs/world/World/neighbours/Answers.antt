@@ -12,5 +12,5 @@ returns-clause-listed c j =
 
 pub returns-clause-each_once : goal.returns-clause-each_once
 returns-clause-each_once c =
-    let inside : c.args.i < length c.self.inside.bonds = omega (arith, c.requires, ap (λ w. length w.positions) c.self.view_is, c.self.invariant.0.bonds.rows) in
-    subst (IsDistinct nat_eq) (sym c.neighbours.ensures.value) (IsDistinct-from_ascending (neighbours_of c.self.inside.bonds c.args.i) (c.self.invariant.0.bonds.ascending c.args.i [] inside))
+    let inside : c.args.i < length c.self.inside.parts.bonds = omega (arith, c.requires, ap (λ w. length w.positions) c.self.view_is, c.self.invariant.0.bonds.rows) in
+    subst (IsDistinct nat_eq) (sym c.neighbours.ensures.value) (IsDistinct-from_ascending (neighbours_of c.self.inside.parts.bonds c.args.i) (c.self.invariant.0.bonds.ascending c.args.i [] inside))

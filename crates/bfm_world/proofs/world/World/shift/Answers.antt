@@ -1,7 +1,8 @@
+use Rattle.bfm_world.specs.Configuration.{configuration_of}
 use Rattle.bfm_world.proofs.ValidLemmas.{shift_keeps}
 use Rattle.bfm_world.proofs.world.World.shift.Goals as goal
 
 pub invariant_of-self : goal.invariant_of-self
 invariant_of-self c =
-    shift_keeps (record { shape = c.self.inside.shape; set = c.self.inside.set; positions = c.self.inside.positions.items; bonds = c.self.inside.bonds }) c.args.self.now c.args.i c.args.dir c.target-target.result
+    shift_keeps (configuration_of c.self.inside.parts) c.args.self.now c.args.i c.args.dir c.target-target.result
     c.self.view_is c.self.invariant.0 c.self.invariant.1 c.requires.monomer c.requires.legal c.requires.reach c.target-target.ensures.target
