@@ -9,7 +9,7 @@ use Rattle.bfm_base.specs.declared.place.Shape.{Shape}
 use Rattle.bfm_base.specs.declared.cause.Cause.{Cause}
 use Rattle.bfm_base.specs.declared.cause.Cause.TheVariants.{OutOfLimit, NotSymmetric, BadMonomer, TooManyBonds}
 use Rattle.bond_set.specs.BondSet.{first_unpaired}
-use Rattle.bfm_world.specs.Draft.{Draft}
+use Rattle.bfm_world.specs.Draft.{Draft, begun, with_bonds}
 use Rattle.bfm_lexer.specs.Lines.{without_return}
 use Rattle.bfm_commands.specs.Entries.{is_monomer, pair_numbers, limited_pair, bond_entry}
 use Rattle.bfm_commands.specs.History.{count_of, section_of, set_of, with_entry, pairs_in, pairs_of, with_pairs, listed_bonds, begun_frame, value_at}
@@ -74,14 +74,14 @@ module _ (header : Header) (lines : List (List ℕ)) (h : IsHeader header lines)
   pub IsReady-header : IsReady header
   IsReady-header = record {
     lines = seven;
-    least = λ place l. (h.values place l (omega (arith, h.count))).least;
-    greatest = λ place l. (h.values place l (omega (arith, h.count))).greatest;
+    least = λ index l. (h.values index l (omega (arith, h.count))).least;
+    greatest = λ index l. (h.values index l (omega (arith, h.count))).greatest;
     sites = h.sites (omega (arith, h.count));
     pairs = subst AreApart (sym h.pairs) (pairs_of-apart lines);
   }
 
-  value_is : (place : ℕ) → place < 7 → value_at lines place ≡ get_or header.values place 0
-  value_is place l = (h.values place l (omega (arith, h.count))).is
+  value_is : (index : ℕ) → index < 7 → value_at lines index ≡ get_or header.values index 0
+  value_is index l = (h.values index l (omega (arith, h.count))).is
 
   -- what it begins
   pub begun_frame-header : (shape : Shape)
@@ -89,13 +89,7 @@ module _ (header : Header) (lines : List (List ℕ)) (h : IsHeader header lines)
         sides = get_or header.values 1 0 ∷ get_or header.values 2 0 ∷ get_or header.values 3 0 ∷ [];
         periodic = (get_or header.values 4 0 == 1) ∷ (get_or header.values 5 0 == 1) ∷ (get_or header.values 6 0 == 1) ∷ [];
       }
-      → begun_frame lines ≡ record {
-        shape = shape;
-        set = header.set;
-        count = get_or header.values 0 0;
-        positions = [];
-        bonds = with_pairs (replicate (get_or header.values 0 0) []) header.pairs.items;
-      }
+      → begun_frame lines ≡ with_bonds (begun shape header.set (get_or header.values 0 0)) (with_pairs (replicate (get_or header.values 0 0) []) header.pairs.items)
   begun_frame-header shape e =
       rw (e, value_is 0 (omega arith), value_is 1 (omega arith), value_is 2 (omega arith), value_is 3 (omega arith), value_is 4 (omega arith), value_is 5 (omega arith), value_is 6 (omega arith), h.set, h.pairs) refl
 
@@ -114,19 +108,19 @@ module _ (header : Header) (lines : List (List ℕ)) (h : IsHeader header lines)
       ∙ ap (λ b. cond b (Some TooManyBonds) None) over)
 
   -- the same by the world that is begun and the pairs that are joined in it
-  module _ (start : Draft) (listed : List (ℕ × ℕ)) (these : listed ≡ header.pairs.items) (bonds : start.bonds ≡ replicate (get_or header.values 0 0) []) where
-    bonds_joined : with_pairs start.bonds listed ≡ with_pairs (replicate (get_or header.values 0 0) []) header.pairs.items
+  module _ (start : Draft) (listed : List (ℕ × ℕ)) (these : listed ≡ header.pairs.items) (bonds : start.world.bonds ≡ replicate (get_or header.values 0 0) []) where
+    bonds_joined : with_pairs start.world.bonds listed ≡ with_pairs (replicate (get_or header.values 0 0) []) header.pairs.items
     bonds_joined = ap (λ b. with_pairs b listed) bonds ∙ ap (with_pairs (replicate (get_or header.values 0 0) [])) these
 
     pub begin_cause-joined : (full : Bool) → first_unpaired header.set ≡ None → list_any (is_beyond (get_or header.values 0 0)) header.pairs.items ≡ false
-        → is_overfull (with_pairs start.bonds listed) ≡ full → begin_cause lines ≡ cond full (Some TooManyBonds) None
+        → is_overfull (with_pairs start.world.bonds listed) ≡ full → begin_cause lines ≡ cond full (Some TooManyBonds) None
     begin_cause-joined full paired present over = begin_cause-bonds full paired present (sym (ap is_overfull bonds_joined) ∙ over)
 
-    pub begun_frame-joined : (built : Draft) → built ≡ record start { bonds = with_pairs start.bonds listed }
-        → start.shape ≡ record {
+    pub begun_frame-joined : (built : Draft) → built ≡ with_bonds start (with_pairs start.world.bonds listed)
+        → start.world.shape ≡ record {
           sides = get_or header.values 1 0 ∷ get_or header.values 2 0 ∷ get_or header.values 3 0 ∷ [];
           periodic = (get_or header.values 4 0 == 1) ∷ (get_or header.values 5 0 == 1) ∷ (get_or header.values 6 0 == 1) ∷ [];
         }
-        → start.set ≡ header.set → start.count ≡ get_or header.values 0 0 → start.positions ≡ [] → built ≡ begun_frame lines
+        → start.world.set ≡ header.set → start.count ≡ get_or header.values 0 0 → start.world.positions ≡ [] → built ≡ begun_frame lines
     begun_frame-joined built is shape set count positions =
-        is ∙ (rw (set, count, positions, bonds_joined) refl ∙ sym (begun_frame-header start.shape shape))
+        is ∙ (rw (set, count, positions, bonds_joined) refl ∙ sym (begun_frame-header start.world.shape shape))

@@ -1,5 +1,5 @@
 -- Commands: their values, and that no command is an entry of a section.
-use Rattle.std.proofs.Common.{◌≡◌, ℕ, zero, suc, ◌+◌, ◌*◌, ◌^◌, ◌<◌, ◌≤◌, ◌≢◌, Bool, true, false, cond, ◌&&◌, List, [], ◌∷◌, ◌++◌, length, get_or, Option, None, Some, is_some, option_and_then, Err, nat_le, nat_lt, codes, ℤ, pos, refl, ap, sym, ◌∙◌, subst, inl, inr, arith}
+use Rattle.std.proofs.Common.{◌≡◌, ℕ, zero, suc, ◌+◌, ◌*◌, ◌<◌, ◌≤◌, ◌≢◌, Bool, true, false, cond, ◌&&◌, List, [], ◌∷◌, ◌++◌, length, get_or, Option, None, Some, is_some, option_and_then, Err, nat_le, nat_lt, codes, ℤ, pos, refl, ap, sym, ◌∙◌, subst, inl, inr, arith}
 use Rattle.std.specs.Option.{option_map}
 use Rattle.std.specs.Prelude.{◌==◌}
 use Rattle.std.specs.Str.{bytes_eq}
@@ -9,6 +9,7 @@ use Rattle.std.proofs.lemmas.List.{get_or-set_same, get_or-set_other}
 use Rattle.std.proofs.lemmas.Bool.Decides.{nat_tests, eqb_tells}
 use Rattle.std.proofs.lemmas.Slice.Eq.{bytes_eq-Decides}
 use Rattle.bfm_base.specs.declared.cause.Cause.TheVariants.{Unbuilt}
+use Rattle.bfm_base.specs.declared.limits.TheConstants.{MOST_SITES}
 use Rattle.bfm_commands.specs.Numbers.{Setting, within, number_within, is_named, given, split_once}
 use Rattle.bfm_lexer.specs.Numbers.{natural_of, number_of}
 use Rattle.bfm_commands.specs.Entries.{place_of, both, vector_numbers, vector_entry, limited_vector, pair_numbers, bond_entry, limited_pair}
@@ -51,27 +52,27 @@ given-range s text v e = is_named-range s (split_once 61 text) v e
 
 -- ---- the number of sites
 -- a value that fits is the value of its command
-pub fitting-some : (place a : ℕ) (o : Option ℕ) (v : ℕ) → fitting place a o ≡ Some v → o ≡ Some v
-fitting-some place a None v e = e
-fitting-some place a (Some n) v e = not_some ((place == 3) && nat_lt (2 ^ 24) (a * n)) (Some n) v e
+pub fitting-some : (index a : ℕ) (o : Option ℕ) (v : ℕ) → fitting index a o ≡ Some v → o ≡ Some v
+fitting-some index a None v e = e
+fitting-some index a (Some n) v e = not_some ((index == 3) && nat_lt MOST_SITES (a * n)) (Some n) v e
 
 fits_in : (b : Bool) (n v : ℕ) → cond b None (Some n) ≡ Some v → (b ≡ false) × (n ≡ v)
 fits_in true n v e = absurd (cc)
 fits_in false n v e = (refl, cc)
 
-below : (n : ℕ) → nat_lt (2 ^ 24) n ≡ false → n ≤ 2 ^ 24
+below : (n : ℕ) → nat_lt MOST_SITES n ≡ false → n ≤ MOST_SITES
 below n h = grind (arith, nat_tests)
 
-fitting-sites : (a : ℕ) (o : Option ℕ) (v : ℕ) → fitting 3 a o ≡ Some v → a * v ≤ 2 ^ 24
+fitting-sites : (a : ℕ) (o : Option ℕ) (v : ℕ) → fitting 3 a o ≡ Some v → a * v ≤ MOST_SITES
 fitting-sites a None v e = absurd (cc)
 fitting-sites a (Some n) v e =
-    let f = fits_in (nat_lt (2 ^ 24) (a * n)) n v e in
-    subst (λ m. a * m ≤ 2 ^ 24) f.1 (below (a * n) f.0)
+    let f = fits_in (nat_lt MOST_SITES (a * n)) n v e in
+    subst (λ m. a * m ≤ MOST_SITES) f.1 (below (a * n) f.0)
 
 -- the third side leaves the box within its limit
 pub sites-more : (values : List ℕ) (k v : ℕ) (o : Option ℕ) → k < length values → length values ≡ 7
-    → (3 < k → get_or values 1 0 * get_or values 2 0 * get_or values 3 0 ≤ 2 ^ 24) → fitting k (get_or values 1 0 * get_or values 2 0) o ≡ Some v
-    → 3 < k + 1 → get_or (set values k v) 1 0 * get_or (set values k v) 2 0 * get_or (set values k v) 3 0 ≤ 2 ^ 24
+    → (3 < k → get_or values 1 0 * get_or values 2 0 * get_or values 3 0 ≤ MOST_SITES) → fitting k (get_or values 1 0 * get_or values 2 0) o ≡ Some v
+    → 3 < k + 1 → get_or (set values k v) 1 0 * get_or (set values k v) 2 0 * get_or (set values k v) 3 0 ≤ MOST_SITES
 sites-more values k v o inside seven h e late =
     let first : 1 ≢ k = omega arith in
     let second : 2 ≢ k = omega arith in
@@ -161,7 +162,7 @@ pub record IsValueText (text : List ℕ) : Type 0 where
   pub opens_none : opened_by text ≡ None
   pub no_entry : IsNoEntry text
 
-value_text_at : (place : ℕ) (text rest : List ℕ) → place < 7 → text ≡ ((setting_at place).name ++ 61 ∷ []) ++ rest → IsValueText text
+value_text_at : (index : ℕ) (text rest : List ℕ) → index < 7 → text ≡ ((setting_at index).name ++ 61 ∷ []) ++ rest → IsValueText text
 value_text_at zero text rest l e = record { opens_none = rw e refl; no_entry = marked_text text _ e }
 value_text_at (suc zero) text rest l e = record { opens_none = rw e refl; no_entry = marked_text text _ e }
 value_text_at (suc (suc zero)) text rest l e = record { opens_none = rw e refl; no_entry = marked_text text _ e }
@@ -169,9 +170,9 @@ value_text_at (suc (suc (suc zero))) text rest l e = record { opens_none = rw e 
 value_text_at (suc (suc (suc (suc zero)))) text rest l e = record { opens_none = rw e refl; no_entry = marked_text text _ e }
 value_text_at (suc (suc (suc (suc (suc zero))))) text rest l e = record { opens_none = rw e refl; no_entry = marked_text text _ e }
 value_text_at (suc (suc (suc (suc (suc (suc zero)))))) text rest l e = record { opens_none = rw e refl; no_entry = marked_text text _ e }
-value_text_at (suc (suc (suc (suc (suc (suc (suc place))))))) text rest l e = absurd (omega arith)
+value_text_at (suc (suc (suc (suc (suc (suc (suc index))))))) text rest l e = absurd (omega arith)
 
-pub value_text : (place : ℕ) (text : List ℕ) (v : ℕ) → place < 7 → given (setting_at place) text ≡ Some v → IsValueText text
-value_text place text v l e =
-    let named = named_by (setting_at place) text v (split_once 61 text) refl e in
-    value_text_at place text named.0 l named.1
+pub value_text : (index : ℕ) (text : List ℕ) (v : ℕ) → index < 7 → given (setting_at index) text ≡ Some v → IsValueText text
+value_text index text v l e =
+    let named = named_by (setting_at index) text v (split_once 61 text) refl e in
+    value_text_at index text named.0 l named.1

@@ -1,5 +1,5 @@
 -- The readings of the numbers of an entry, put together.
-use Rattle.std.proofs.Common.{◌≡◌, ℕ, ◌≤◌, ◌<◌, ◌-◌, ◌^◌, Bool, true, false, cond, ◌&&◌, List, Option, None, Some, MatchOption, Result, Ok, Err, nat_le, max, ℤ, pos, negsuc, unsigned_abs, Bor, refl, ap, sym, ◌∙◌, arith}
+use Rattle.std.proofs.Common.{◌≡◌, ℕ, ◌≤◌, ◌<◌, ◌-◌, Bool, true, false, cond, ◌&&◌, List, Option, None, Some, MatchOption, Result, Ok, Err, nat_le, max, ℤ, pos, negsuc, unsigned_abs, Bor, refl, ap, sym, ◌∙◌, arith}
 use Rattle.std.specs.Option.{ok_or}
 use Rattle.std.proofs.lemmas.Bool.Decides.{nat_tests}
 use Rattle.bfm_base.specs.declared.place.P3.{P3}
@@ -7,6 +7,7 @@ use Rattle.bfm_base.specs.Place.{extent_of}
 use Rattle.bfm_base.specs.declared.cause.Cause.{Cause}
 use Rattle.bfm_base.specs.declared.cause.Cause.TheVariants.{OutOfLimit, Unbuilt}
 use Rattle.bfm_lexer.specs.Numbers.{number_of}
+use Rattle.bfm_base.specs.declared.limits.TheConstants.{GREATEST_NUMBER, START_REACH, MOST_MONOMERS}
 use Rattle.bfm_commands.specs.Numbers.{split_once}
 use Rattle.bfm_commands.specs.Entries.{place_of, both, is_monomer, sized_number, sized_place, sized_monomer, vector_numbers, limited_vector, pair_numbers, limited_pair, frame_numbers, limited_frame, with_string, up_to_space}
 
@@ -65,10 +66,10 @@ place_tests true false r x y z = refl
 place_tests false q r x y z = refl
 
 place_sized : (x y z : ℤ) (p : P3) → p ≡ record { x = x; y = y; z = z }
-    → cond (nat_le (extent_of p) (2 ^ 62)) (Some p) None
-    ≡ place_of (cond (nat_le (unsigned_abs x) (2 ^ 62)) (Some x) None) (cond (nat_le (unsigned_abs y) (2 ^ 62)) (Some y) None) (cond (nat_le (unsigned_abs z) (2 ^ 62)) (Some z) None)
+    → cond (nat_le (extent_of p) GREATEST_NUMBER) (Some p) None
+    ≡ place_of (cond (nat_le (unsigned_abs x) GREATEST_NUMBER) (Some x) None) (cond (nat_le (unsigned_abs y) GREATEST_NUMBER) (Some y) None) (cond (nat_le (unsigned_abs z) GREATEST_NUMBER) (Some z) None)
 place_sized x y z p e =
-    let limit : ℕ = 2 ^ 62 in
+    let limit : ℕ = GREATEST_NUMBER in
     rw e (
     ap (λ b. cond b (Some (record { x = x; y = y; z = z })) None)
     (max_le (unsigned_abs x) (max (unsigned_abs y) (unsigned_abs z)) limit ∙ ap (λ b. nat_le (unsigned_abs x) limit && b) (max_le (unsigned_abs y) (unsigned_abs z) limit))
@@ -81,9 +82,9 @@ place-read None b d p q r e f g = absurd (cc)
 place-read (Some x) None d p q r e f g = absurd (cc)
 place-read (Some x) (Some y) None p q r e f g = absurd (cc)
 place-read (Some x) (Some y) (Some z) p q r e f g =
-    let px : p ≡ cond (nat_le (unsigned_abs x) (2 ^ 62)) (Some x) None = cc in
-    let qy : q ≡ cond (nat_le (unsigned_abs y) (2 ^ 62)) (Some y) None = cc in
-    let rz : r ≡ cond (nat_le (unsigned_abs z) (2 ^ 62)) (Some z) None = cc in
+    let px : p ≡ cond (nat_le (unsigned_abs x) GREATEST_NUMBER) (Some x) None = cc in
+    let qy : q ≡ cond (nat_le (unsigned_abs y) GREATEST_NUMBER) (Some y) None = cc in
+    let rz : r ≡ cond (nat_le (unsigned_abs z) GREATEST_NUMBER) (Some z) None = cc in
     ap (λ (o : Option P3). Ok o) (rw (px, qy, rz) (place_sized x y z _ refl))
 
 -- the value of two parts of which each has its size
@@ -124,19 +125,19 @@ pub vector-read : (p v : Option P3) (o n : Option ℤ) → sized_place p ≡ Ok 
 vector-read None v o n e f = absurd (cc)
 vector-read (Some p) v None n e f = absurd (cc)
 vector-read (Some p) v (Some i) n e f =
-    let place : v ≡ cond (nat_le (extent_of p) (2 ^ 62)) (Some p) None = cc in
-    let id : n ≡ cond (nat_le (unsigned_abs i) (2 ^ 62)) (Some i) None = cc in
-    rw (place, id) (vector_tests (nat_le (extent_of p) (2 ^ 62)) (nat_le (unsigned_abs i) (2 ^ 62)) p i)
+    let place : v ≡ cond (nat_le (extent_of p) GREATEST_NUMBER) (Some p) None = cc in
+    let id : n ≡ cond (nat_le (unsigned_abs i) GREATEST_NUMBER) (Some i) None = cc in
+    rw (place, id) (vector_tests (nat_le (extent_of p) GREATEST_NUMBER) (nat_le (unsigned_abs i) GREATEST_NUMBER) p i)
 
-within_reach : (t : Bool) (p v : P3) → nat_le (extent_of p) (2 ^ 62) ≡ t → cond t (Some p) None ≡ Some v → extent_of v ≤ 2 ^ 62
+within_reach : (t : Bool) (p v : P3) → nat_le (extent_of p) GREATEST_NUMBER ≡ t → cond t (Some p) None ≡ Some v → extent_of v ≤ GREATEST_NUMBER
 within_reach true p v h e =
     let same : p ≡ v = cc in
     rw (sym same) (grind (arith, nat_tests))
 within_reach false p v h e = absurd (cc)
 
-pub place-reach : (p : Option P3) (v : P3) → sized_place p ≡ Ok (Some v) → extent_of v ≤ 2 ^ 62
+pub place-reach : (p : Option P3) (v : P3) → sized_place p ≡ Ok (Some v) → extent_of v ≤ GREATEST_NUMBER
 place-reach None v e = absurd (cc)
-place-reach (Some p) v e = within_reach (nat_le (extent_of p) (2 ^ 62)) p v refl (cc)
+place-reach (Some p) v e = within_reach (nat_le (extent_of p) GREATEST_NUMBER) p v refl (cc)
 
 -- the split of an entry `i j`
 pub pair-parts : (line : List ℕ) (r : Parts) (p : Bor (List ℕ) × Bor (List ℕ)) → Splits 32 line r → ok_or r Unbuilt ≡ Ok p → pair_numbers line ≡ both (number_of p.0.now) (number_of p.1.now)
@@ -149,14 +150,14 @@ pub monomer-unread : (o : Option ℤ) (cause : Cause) → sized_monomer o ≡ Er
 monomer-unread None cause e = (refl, cc)
 monomer-unread (Some n) cause e = absurd (cc)
 
-monomer_below : (n : ℤ) (t : Bool) (m : ℕ) → is_monomer n ≡ t → cond t (Some (unsigned_abs n - 1)) None ≡ Some m → m < 2 ^ 18
+monomer_below : (n : ℤ) (t : Bool) (m : ℕ) → is_monomer n ≡ t → cond t (Some (unsigned_abs n - 1)) None ≡ Some m → m < MOST_MONOMERS
 monomer_below (pos n) true m h e =
     let same : n - 1 ≡ m = cc in
     rw (sym same) (grind (arith, nat_tests))
 monomer_below (negsuc n) true m h e = absurd (cc)
 monomer_below n false m h e = absurd (cc)
 
-pub monomer-range : (o : Option ℤ) (m : ℕ) → sized_monomer o ≡ Ok (Some m) → m < 2 ^ 18
+pub monomer-range : (o : Option ℤ) (m : ℕ) → sized_monomer o ≡ Ok (Some m) → m < MOST_MONOMERS
 monomer-range None m e = absurd (cc)
 monomer-range (Some n) m e = monomer_below n (is_monomer n) m refl (cc)
 
@@ -203,12 +204,12 @@ frame-place ids (Some p) cause e = absurd (cc)
 -- what the place of a frame line gives, where its numbers have their form
 abbrev pub limited_position : List ℕ → Option P3 → Result (P3 × List ℕ) Cause
 limited_position ids None = Err OutOfLimit
-limited_position ids (Some p) = cond (nat_le (extent_of p) (2 ^ 44)) (Ok (p, ids)) (Err OutOfLimit)
+limited_position ids (Some p) = cond (nat_le (extent_of p) START_REACH) (Ok (p, ids)) (Err OutOfLimit)
 
-far : (n : ℕ) → nat_le n (2 ^ 62) ≡ false → nat_le n (2 ^ 44) ≡ false
+far : (n : ℕ) → nat_le n GREATEST_NUMBER ≡ false → nat_le n START_REACH ≡ false
 far n h = grind (arith, nat_tests)
 
-position_read : (ids : List ℕ) (p : P3) (t : Bool) → nat_le (extent_of p) (2 ^ 62) ≡ t → limited_frame (Some (p, ids)) ≡ limited_position ids (cond t (Some p) None)
+position_read : (ids : List ℕ) (p : P3) (t : Bool) → nat_le (extent_of p) GREATEST_NUMBER ≡ t → limited_frame (Some (p, ids)) ≡ limited_position ids (cond t (Some p) None)
 position_read ids p true h = refl
 position_read ids p false h =
     let beyond = far (extent_of p) h in
@@ -217,15 +218,15 @@ position_read ids p false h =
 pub frame-read : (ids : List ℕ) (p v : Option P3) → sized_place p ≡ Ok v → limited_frame (with_string ids p) ≡ limited_position ids v
 frame-read ids None v e = absurd (cc)
 frame-read ids (Some p) v e =
-    let same : v ≡ cond (nat_le (extent_of p) (2 ^ 62)) (Some p) None = cc in
-    rw same (position_read ids p (nat_le (extent_of p) (2 ^ 62)) refl)
+    let same : v ≡ cond (nat_le (extent_of p) GREATEST_NUMBER) (Some p) None = cc in
+    rw same (position_read ids p (nat_le (extent_of p) GREATEST_NUMBER) refl)
 
-pub position-near : (ids : List ℕ) (o : Option P3) (p : P3) (n : ℕ) → o ≡ Some p → n ≡ extent_of p → n ≤ 2 ^ 44 → limited_position ids o ≡ Ok (p, ids)
+pub position-near : (ids : List ℕ) (o : Option P3) (p : P3) (n : ℕ) → o ≡ Some p → n ≡ extent_of p → n ≤ START_REACH → limited_position ids o ≡ Ok (p, ids)
 position-near ids o p n e f h =
-    let near : nat_le (extent_of p) (2 ^ 44) ≡ true = (let m : extent_of p ≤ 2 ^ 44 = rw (sym f) h in grind (arith, nat_tests)) in
+    let near : nat_le (extent_of p) START_REACH ≡ true = (let m : extent_of p ≤ START_REACH = rw (sym f) h in grind (arith, nat_tests)) in
     rw (e, near) refl
 
-pub position-far : (ids : List ℕ) (o : Option P3) (p : P3) (n : ℕ) → o ≡ Some p → n ≡ extent_of p → 2 ^ 44 < n → limited_position ids o ≡ Err OutOfLimit
+pub position-far : (ids : List ℕ) (o : Option P3) (p : P3) (n : ℕ) → o ≡ Some p → n ≡ extent_of p → START_REACH < n → limited_position ids o ≡ Err OutOfLimit
 position-far ids o p n e f h =
-    let beyond : nat_le (extent_of p) (2 ^ 44) ≡ false = (let m : 2 ^ 44 < extent_of p = rw (sym f) h in grind (arith, nat_tests)) in
+    let beyond : nat_le (extent_of p) START_REACH ≡ false = (let m : START_REACH < extent_of p = rw (sym f) h in grind (arith, nat_tests)) in
     rw (e, beyond) refl

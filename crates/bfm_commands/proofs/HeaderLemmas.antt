@@ -1,5 +1,5 @@
 -- What one more line leaves of a header.
-use Rattle.std.proofs.Common.{◌≡◌, ℕ, ◌+◌, ◌*◌, ◌^◌, ◌<◌, ◌≤◌, true, false, cond, List, [], ◌∷◌, ◌++◌, length, get_or, Option, None, Some, unwrap_or, Result, Ok, Err, IfOk, OnOk, is_err, unsigned_abs, ℤ, nat_le, nat_lt, refl, ap, sym, ◌∙◌, subst, inl, inr, arith}
+use Rattle.std.proofs.Common.{◌≡◌, ℕ, ◌+◌, ◌*◌, ◌<◌, ◌≤◌, true, false, cond, List, [], ◌∷◌, ◌++◌, length, get_or, Option, None, Some, unwrap_or, Result, Ok, Err, IfOk, OnOk, is_err, unsigned_abs, ℤ, nat_le, nat_lt, refl, ap, sym, ◌∙◌, subst, inl, inr, arith}
 use Rattle.std.specs.Prelude.{◌==◌}
 use Rattle.std.proofs.Math.ListN.{set}
 use Rattle.std.proofs.lemmas.List.{get_or-set_same, get_or-set_other}
@@ -7,6 +7,7 @@ use Rattle.std.proofs.lemmas.Bool.Decides.{nat_tests, eqb_tells}
 use Rattle.bfm_base.specs.declared.place.P3.{P3}
 use Rattle.bond_set.specs.BondSet.{refusal_of}
 use Rattle.bfm_lexer.specs.Lines.{without_return, is_long}
+use Rattle.bfm_base.specs.declared.limits.TheConstants.{MOST_SITES}
 use Rattle.bfm_commands.specs.Numbers.{given}
 use Rattle.bfm_commands.specs.Entries.{vector_entry, bond_entry}
 use Rattle.bfm_commands.specs.History.{setting_at, value_at, opened_by, section_after, section_of, with_vector, set_in, set_of, with_entry, pairs_in, pairs_of}
@@ -44,32 +45,32 @@ pairs_kept Bonds pairs line h = ap (with_entry pairs) h.bond
 pairs_kept Frame pairs line h = refl
 
 -- ---- the values
-value_before : (line : List ℕ) (lines : List (List ℕ)) (place : ℕ) → (length lines == place) ≡ false → value_at (line ∷ lines) place ≡ value_at lines place
-value_before line lines place e = ap (λ t. cond t (unwrap_or (given (setting_at place) (without_return line)) 0) (value_at lines place)) e
+value_before : (line : List ℕ) (lines : List (List ℕ)) (index : ℕ) → (length lines == index) ≡ false → value_at (line ∷ lines) index ≡ value_at lines index
+value_before line lines index e = ap (λ t. cond t (unwrap_or (given (setting_at index) (without_return line)) 0) (value_at lines index)) e
 
-value_here : (line : List ℕ) (lines : List (List ℕ)) (place v : ℕ) → (length lines == place) ≡ true → given (setting_at place) (without_return line) ≡ Some v
-    → value_at (line ∷ lines) place ≡ v
-value_here line lines place v e g =
-    ap (λ t. cond t (unwrap_or (given (setting_at place) (without_return line)) 0) (value_at lines place)) e ∙ ap (λ o. unwrap_or o 0) g
+value_here : (line : List ℕ) (lines : List (List ℕ)) (index v : ℕ) → (length lines == index) ≡ true → given (setting_at index) (without_return line) ≡ Some v
+    → value_at (line ∷ lines) index ≡ v
+value_here line lines index v e g =
+    ap (λ t. cond t (unwrap_or (given (setting_at index) (without_return line)) 0) (value_at lines index)) e ∙ ap (λ o. unwrap_or o 0) g
 
 -- ---- headers
 module _ (header new : Header) (lines : List (List ℕ)) (line : List ℕ) (h : IsHeader header lines) (count : new.lines ≡ header.lines + 1) where
   -- a line behind the seven values keeps them
-  values_kept : 7 ≤ header.lines → new.values ≡ header.values → (place : ℕ) → place < 7 → place < length (line ∷ lines) → IsValue (line ∷ lines) place (get_or new.values place 0)
-  values_kept late same place l _ =
-      let inside : place < length lines = omega (arith, h.count) in
-      let other : (length lines == place) ≡ false = grind (arith, nat_tests) in
-      let old = h.values place l inside in
-      let value : get_or header.values place 0 ≡ get_or new.values place 0 = ap (λ (vs : List ℕ). get_or vs place 0) (sym same) in
+  values_kept : 7 ≤ header.lines → new.values ≡ header.values → (index : ℕ) → index < 7 → index < length (line ∷ lines) → IsValue (line ∷ lines) index (get_or new.values index 0)
+  values_kept late same index l _ =
+      let inside : index < length lines = omega (arith, h.count) in
+      let other : (length lines == index) ≡ false = grind (arith, nat_tests) in
+      let old = h.values index l inside in
+      let value : get_or header.values index 0 ≡ get_or new.values index 0 = ap (λ (vs : List ℕ). get_or vs index 0) (sym same) in
       record {
-        is = value_before line lines place other ∙ (old.is ∙ value);
-        least = subst (λ v. (setting_at place).least ≤ v) value old.least;
-        greatest = subst (λ v. v ≤ (setting_at place).greatest) value old.greatest;
+        is = value_before line lines index other ∙ (old.is ∙ value);
+        least = subst (λ v. (setting_at index).least ≤ v) value old.least;
+        greatest = subst (λ v. v ≤ (setting_at index).greatest) value old.greatest;
       }
 
-  sites_kept : 7 ≤ header.lines → new.values ≡ header.values → get_or new.values 1 0 * get_or new.values 2 0 * get_or new.values 3 0 ≤ 2 ^ 24
+  sites_kept : 7 ≤ header.lines → new.values ≡ header.values → get_or new.values 1 0 * get_or new.values 2 0 * get_or new.values 3 0 ≤ MOST_SITES
   sites_kept late same =
-      subst (λ (vs : List ℕ). get_or vs 1 0 * get_or vs 2 0 * get_or vs 3 0 ≤ 2 ^ 24) (sym same) (h.sites (omega (arith, h.count)))
+      subst (λ (vs : List ℕ). get_or vs 1 0 * get_or vs 2 0 * get_or vs 3 0 ≤ MOST_SITES) (sym same) (h.sites (omega (arith, h.count)))
 
   pub IsHeader-opened : (section : Section) → 7 ≤ header.lines → rank section < 3 → opened_by (without_return line) ≡ Some section
       → new.section ≡ section → new.values ≡ header.values → new.set ≡ header.set → new.pairs.items ≡ header.pairs.items → IsHeader new (line ∷ lines)
@@ -118,27 +119,27 @@ module _ (header new : Header) (lines : List (List ℕ)) (line : List ℕ) (h : 
 
   -- one more value
   values_more : (v : ℕ) → header.lines < 7 → length header.values ≡ 7 → new.values ≡ set header.values header.lines v → given (setting_at (length lines)) (without_return line) ≡ Some v
-      → (place : ℕ) → place < 7 → place < length (line ∷ lines) → IsValue (line ∷ lines) place (get_or new.values place 0)
-  values_more v early seven values g place l inside =
-      elim (eqb_tells (length lines) place) [
+      → (index : ℕ) → index < 7 → index < length (line ∷ lines) → IsValue (line ∷ lines) index (get_or new.values index 0)
+  values_more v early seven values g index l inside =
+      elim (eqb_tells (length lines) index) [
         | inl e ↦
-            let here : given (setting_at place) (without_return line) ≡ Some v = subst (λ k. given (setting_at k) (without_return line) ≡ Some v) e.1 g in
-            let range = given-range (setting_at place) (without_return line) v here in
-            let value : v ≡ get_or new.values place 0 =
-            sym (ap (λ (vs : List ℕ). get_or vs place 0) values ∙ (ap (λ k. get_or (set header.values k v) place 0) (h.count ∙ e.1) ∙ get_or-set_same header.values place v 0 (omega arith))) in
+            let here : given (setting_at index) (without_return line) ≡ Some v = subst (λ k. given (setting_at k) (without_return line) ≡ Some v) e.1 g in
+            let range = given-range (setting_at index) (without_return line) v here in
+            let value : v ≡ get_or new.values index 0 =
+            sym (ap (λ (vs : List ℕ). get_or vs index 0) values ∙ (ap (λ k. get_or (set header.values k v) index 0) (h.count ∙ e.1) ∙ get_or-set_same header.values index v 0 (omega arith))) in
             record {
-              is = value_here line lines place v e.0 here ∙ value;
-              least = subst (λ n. (setting_at place).least ≤ n) value range.0;
-              greatest = subst (λ n. n ≤ (setting_at place).greatest) value range.1;
+              is = value_here line lines index v e.0 here ∙ value;
+              least = subst (λ n. (setting_at index).least ≤ n) value range.0;
+              greatest = subst (λ n. n ≤ (setting_at index).greatest) value range.1;
             }
         | inr n ↦
-            let old = h.values place l (omega (arith, n.1)) in
-            let value : get_or header.values place 0 ≡ get_or new.values place 0 =
-            sym (ap (λ (vs : List ℕ). get_or vs place 0) values ∙ get_or-set_other header.values header.lines place v 0 (omega (arith, n.1, h.count))) in
+            let old = h.values index l (omega (arith, n.1)) in
+            let value : get_or header.values index 0 ≡ get_or new.values index 0 =
+            sym (ap (λ (vs : List ℕ). get_or vs index 0) values ∙ get_or-set_other header.values header.lines index v 0 (omega (arith, n.1, h.count))) in
             record {
-              is = value_before line lines place n.0 ∙ (old.is ∙ value);
-              least = subst (λ m. (setting_at place).least ≤ m) value old.least;
-              greatest = subst (λ m. m ≤ (setting_at place).greatest) value old.greatest;
+              is = value_before line lines index n.0 ∙ (old.is ∙ value);
+              least = subst (λ m. (setting_at index).least ≤ m) value old.least;
+              greatest = subst (λ m. m ≤ (setting_at index).greatest) value old.greatest;
             }
       ]
 
@@ -153,9 +154,9 @@ module _ (header new : Header) (lines : List (List ℕ)) (line : List ℕ) (h : 
         | inr n ↦ elsewhere (length lines) _ _ o n.0
       ]
     where
-      elsewhere : (place a b : ℕ) (p : Option ℕ) → (place == 3) ≡ false → fitting place a p ≡ fitting place b p
-      elsewhere place a b None e = refl
-      elsewhere place a b (Some v) e = rw e refl
+      elsewhere : (index a b : ℕ) (p : Option ℕ) → (index == 3) ≡ false → fitting index a p ≡ fitting index b p
+      elsewhere index a b None e = refl
+      elsewhere index a b (Some v) e = rw e refl
 
   pub IsHeader-value : (v : ℕ) → header.lines < 7 → length header.values ≡ 7
       → fitting (length lines) (value_at lines 1 * value_at lines 2) (given (setting_at (length lines)) (without_return line)) ≡ Some v
@@ -172,7 +173,7 @@ module _ (header new : Header) (lines : List (List ℕ)) (line : List ℕ) (h : 
         section = section ∙ (h.section ∙ sym after);
         before_frame = subst (λ s. rank s < 3) (sym after) h.before_frame;
         values = values_more v early seven values g;
-        sites = λ late. subst (λ (vs : List ℕ). get_or vs 1 0 * get_or vs 2 0 * get_or vs 3 0 ≤ 2 ^ 24) (sym values)
+        sites = λ late. subst (λ (vs : List ℕ). get_or vs 1 0 * get_or vs 2 0 * get_or vs 3 0 ≤ MOST_SITES) (sym values)
             (sites-more header.values header.lines v o (omega arith) seven (λ more. h.sites (omega (arith, h.count))) fits_here (omega (arith, h.count)));
         set = set ∙ (h.set ∙ sym (set_kept (section_of lines) (set_of lines) line text.no_entry));
         pairs = pairs ∙ (h.pairs ∙ sym (pairs_kept (section_of lines) (pairs_of lines) line text.no_entry));

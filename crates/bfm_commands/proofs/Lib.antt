@@ -1,11 +1,13 @@
 pub mod BeginLemmas
 pub mod CommandLemmas
 pub mod EntryLemmas
+pub mod FormLemmas
 pub mod FrameLemmas
 pub mod HeaderLemmas
 pub mod LineLemmas
 pub mod NumberLemmas
 pub mod PairLemmas
 pub mod ReadLemmas
+pub mod SuccessiveLemmas
 pub mod TakeLemmas
 pub mod WalkLemmas

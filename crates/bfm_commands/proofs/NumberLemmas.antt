@@ -47,7 +47,7 @@ within-over least greatest n ds h =
       | false ↦ refl
     ]
 
--- what a read of the digits from place i on, after which they make n, has still to give
+-- what a read of the digits from index i on, after which they make n, has still to give
 pub record Reads (least greatest n : ℕ) (text : List ℕ) (i : ℕ) : Type 0 where
   pub gives : within least greatest (digits_from n (drop i text)) ≡ number_within least greatest text
 
@@ -72,7 +72,7 @@ Reads-other least greatest n text i h r d =
 pub Reads-over : (least greatest n : ℕ) (text : List ℕ) (i : ℕ) → greatest < n → Reads least greatest n text i → number_within least greatest text ≡ None
 Reads-over least greatest n text i h r = sym r.gives ∙ within-over least greatest n (drop i text) h
 
--- the first place of a byte parts a text
+-- where a byte first stands parts a text
 pub split_once-at : (c : ℕ) (text : List ℕ) (k : ℕ) → k < length text → ((j : ℕ) → j < k → (get_or text j 0 == c) ≡ false) → (get_or text k 0 == c) ≡ true
     → split_once c text ≡ Some (take k text, drop (suc k) text)
 split_once-at c [] k l before here = absurd (omega arith)

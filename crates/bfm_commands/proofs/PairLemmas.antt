@@ -10,8 +10,9 @@ use Rattle.std.proofs.lemmas.List.Elements.{All-head, All-tail}
 use Rattle.std.proofs.lemmas.Bool.Decides.{nat_tests, eqb_tells}
 use Rattle.bfm_base.specs.declared.cause.Cause.{Cause}
 use Rattle.bfm_base.specs.declared.cause.Cause.TheVariants.{BadBond, TooManyBonds}
-use Rattle.bfm_world.specs.Bonds.{neighbours_of, are_bonded, is_full, put, with_bond, most_bonds}
-use Rattle.bfm_world.specs.Draft.{Draft, join_answer, may_join, is_pair}
+use Rattle.bfm_world.specs.Bonds.{neighbours_of, are_bonded, is_full, put, with_bond}
+use Rattle.bfm_base.specs.declared.limits.TheConstants.{MOST_BONDS}
+use Rattle.bfm_world.specs.Draft.{Draft, with_bonds, join_answer, may_join, is_pair}
 use Rattle.bfm_world.proofs.BondLemmas.{length-put}
 use Rattle.bfm_commands.specs.History.{with_pair, with_pairs}
 use Rattle.bfm_commands.specs.Causes.{is_overfull, is_beyond}
@@ -69,20 +70,20 @@ neither_right : (a b : Bool) → (a || b) ≡ false → b ≡ false
 neither_right true b h = absurd (cc)
 neither_right false b h = h
 
-too_long : (row more : List ℕ) → length row ≤ length more → nat_lt most_bonds (length row) ≡ true → nat_lt most_bonds (length more) ≡ true
+too_long : (row more : List ℕ) → length row ≤ length more → nat_lt MOST_BONDS (length row) ≡ true → nat_lt MOST_BONDS (length more) ≡ true
 too_long row more l h = grind (arith, nat_tests)
 
 overfull-set : (bonds : List (List ℕ)) (i : ℕ) (row : List ℕ) → length (get_or bonds i []) ≤ length row → is_overfull bonds ≡ true → is_overfull (set bonds i row) ≡ true
 overfull-set [] i row l h = h
 overfull-set (r ∷ rs) zero row l h =
-    elim (or_cases (nat_lt most_bonds (length r)) (is_overfull rs) h) [
+    elim (or_cases (nat_lt MOST_BONDS (length r)) (is_overfull rs) h) [
       | inl first ↦ or_left _ (is_overfull rs) (too_long r row l first)
-      | inr later ↦ or_right (nat_lt most_bonds (length row)) _ later
+      | inr later ↦ or_right (nat_lt MOST_BONDS (length row)) _ later
     ]
 overfull-set (r ∷ rs) (suc i) row l h =
-    elim (or_cases (nat_lt most_bonds (length r)) (is_overfull rs) h) [
+    elim (or_cases (nat_lt MOST_BONDS (length r)) (is_overfull rs) h) [
       | inl first ↦ or_left _ (is_overfull (set rs i row)) first
-      | inr later ↦ or_right (nat_lt most_bonds (length r)) _ (overfull-set rs i row l later)
+      | inr later ↦ or_right (nat_lt MOST_BONDS (length r)) _ (overfull-set rs i row l later)
     ]
 
 -- the row that was written, or none where there is no such row
@@ -124,18 +125,18 @@ with_pairs-overfull_at bonds pairs k h =
     rw whole (with_pairs-overfull (with_pairs bonds (take k pairs)) (drop k pairs) h)
 
 -- ---- a bond more
-not_too_long : (row : List ℕ) (j : ℕ) → nat_le most_bonds (length row) ≡ false → nat_lt most_bonds (length (put j row)) ≡ false
+not_too_long : (row : List ℕ) (j : ℕ) → nat_le MOST_BONDS (length row) ≡ false → nat_lt MOST_BONDS (length (put j row)) ≡ false
 not_too_long row j h = let more = length-put j row in grind (arith, nat_tests)
 
-now_too_long : (row : List ℕ) (j : ℕ) → nat_le most_bonds (length row) ≡ true → nat_lt most_bonds (length (put j row)) ≡ true
+now_too_long : (row : List ℕ) (j : ℕ) → nat_le MOST_BONDS (length row) ≡ true → nat_lt MOST_BONDS (length (put j row)) ≡ true
 now_too_long row j h = let more = length-put j row in grind (arith, nat_tests)
 
-room-set : (bonds : List (List ℕ)) (i : ℕ) (row : List ℕ) → is_overfull bonds ≡ false → nat_lt most_bonds (length row) ≡ false → is_overfull (set bonds i row) ≡ false
+room-set : (bonds : List (List ℕ)) (i : ℕ) (row : List ℕ) → is_overfull bonds ≡ false → nat_lt MOST_BONDS (length row) ≡ false → is_overfull (set bonds i row) ≡ false
 room-set [] i row h l = h
-room-set (r ∷ rs) zero row h l = or_neither (nat_lt most_bonds (length row)) (is_overfull rs) l (neither_right (nat_lt most_bonds (length r)) (is_overfull rs) h)
+room-set (r ∷ rs) zero row h l = or_neither (nat_lt MOST_BONDS (length row)) (is_overfull rs) l (neither_right (nat_lt MOST_BONDS (length r)) (is_overfull rs) h)
 room-set (r ∷ rs) (suc i) row h l =
-    or_neither (nat_lt most_bonds (length r)) (is_overfull (set rs i row)) (neither_left (nat_lt most_bonds (length r)) (is_overfull rs) h)
-    (room-set rs i row (neither_right (nat_lt most_bonds (length r)) (is_overfull rs) h) l)
+    or_neither (nat_lt MOST_BONDS (length r)) (is_overfull (set rs i row)) (neither_left (nat_lt MOST_BONDS (length r)) (is_overfull rs) h)
+    (room-set rs i row (neither_right (nat_lt MOST_BONDS (length r)) (is_overfull rs) h) l)
 
 -- two that have room for a bond more
 pub with_bond-room : (bonds : List (List ℕ)) (i j : ℕ) → is_overfull bonds ≡ false → is_full bonds i ≡ false → is_full bonds j ≡ false → is_overfull (with_bond bonds i j) ≡ false
@@ -152,13 +153,13 @@ with_bond-full bonds i j ne l m h =
       | inl full ↦
           let row : get_or (with_bond bonds i j) i [] ≡ put j (neighbours_of bonds i) =
           get_or-set_other inner j i (put i (neighbours_of bonds j)) [] ne ∙ get_or-set_same bonds i (put j (neighbours_of bonds i)) [] l in
-          list_any_at (λ row. nat_lt most_bonds (length row)) (with_bond bonds i j) i [] (omega (arith, length-with_bond bonds i j))
-          (ap (λ (r : List ℕ). nat_lt most_bonds (length r)) row ∙ now_too_long (neighbours_of bonds i) j full)
+          list_any_at (λ row. nat_lt MOST_BONDS (length row)) (with_bond bonds i j) i [] (omega (arith, length-with_bond bonds i j))
+          (ap (λ (r : List ℕ). nat_lt MOST_BONDS (length r)) row ∙ now_too_long (neighbours_of bonds i) j full)
       | inr full ↦
           let row : get_or (with_bond bonds i j) j [] ≡ put i (neighbours_of bonds j) =
           get_or-set_same inner j (put i (neighbours_of bonds j)) [] (omega (arith, size)) in
-          list_any_at (λ row. nat_lt most_bonds (length row)) (with_bond bonds i j) j [] (omega (arith, length-with_bond bonds i j))
-          (ap (λ (r : List ℕ). nat_lt most_bonds (length r)) row ∙ now_too_long (neighbours_of bonds j) i full)
+          list_any_at (λ row. nat_lt MOST_BONDS (length row)) (with_bond bonds i j) j [] (omega (arith, length-with_bond bonds i j))
+          (ap (λ (r : List ℕ). nat_lt MOST_BONDS (length r)) row ∙ now_too_long (neighbours_of bonds j) i full)
     ]
 
 -- no monomer has a bond at first
@@ -167,50 +168,50 @@ replicate-room zero = refl
 replicate-room (suc n) = replicate-room n
 
 -- no monomer has more than it may have
-pub not_overfull : (bonds : List (List ℕ)) → All (λ row. length row ≤ most_bonds) bonds → is_overfull bonds ≡ false
+pub not_overfull : (bonds : List (List ℕ)) → All (λ row. length row ≤ MOST_BONDS) bonds → is_overfull bonds ≡ false
 not_overfull [] h = refl
 not_overfull (row ∷ rows) h =
-    ap (λ b. b || is_overfull rows) (short-row row (All-head (λ r. length r ≤ most_bonds) row rows h)) ∙ not_overfull rows (All-tail (λ r. length r ≤ most_bonds) row rows h)
+    ap (λ b. b || is_overfull rows) (short-row row (All-head (λ r. length r ≤ MOST_BONDS) row rows h)) ∙ not_overfull rows (All-tail (λ r. length r ≤ MOST_BONDS) row rows h)
   where
-    short-row : (row : List ℕ) → length row ≤ most_bonds → nat_lt most_bonds (length row) ≡ false
+    short-row : (row : List ℕ) → length row ≤ MOST_BONDS → nat_lt MOST_BONDS (length row) ≡ false
     short-row row h = grind (arith, nat_tests)
 
 -- ---- the answer to a join
 -- what a pair makes of the bonds, by the answer
 abbrev pub Joined : Draft → ℕ × ℕ → Result Bool Cause → Type 0
-Joined draft pair (Ok true) = (with_pair draft.bonds pair ≡ with_bond draft.bonds pair.0 pair.1) × (is_overfull (with_pair draft.bonds pair) ≡ false)
-Joined draft pair (Ok false) = (with_pair draft.bonds pair ≡ draft.bonds) × (is_overfull (with_pair draft.bonds pair) ≡ false)
-Joined draft pair (Err cause) = (cause ≡ TooManyBonds) × (is_overfull (with_pair draft.bonds pair) ≡ true)
+Joined draft pair (Ok true) = (with_pair draft.world.bonds pair ≡ with_bond draft.world.bonds pair.0 pair.1) × (is_overfull (with_pair draft.world.bonds pair) ≡ false)
+Joined draft pair (Ok false) = (with_pair draft.world.bonds pair ≡ draft.world.bonds) × (is_overfull (with_pair draft.world.bonds pair) ≡ false)
+Joined draft pair (Err cause) = (cause ≡ TooManyBonds) × (is_overfull (with_pair draft.world.bonds pair) ≡ true)
 
-module _ (draft : Draft) (pair : ℕ × ℕ) (ne : pair.0 ≢ pair.1) (rows : length draft.bonds ≡ draft.count) (l : pair.0 < draft.count) (m : pair.1 < draft.count) (room : is_overfull draft.bonds ≡ false) where
-  joined_new : are_bonded draft.bonds pair.0 pair.1 ≡ false → (full first second : Bool) → is_full draft.bonds pair.0 ≡ first → is_full draft.bonds pair.1 ≡ second → (first || second) ≡ full
+module _ (draft : Draft) (pair : ℕ × ℕ) (ne : pair.0 ≢ pair.1) (rows : length draft.world.bonds ≡ draft.count) (l : pair.0 < draft.count) (m : pair.1 < draft.count) (room : is_overfull draft.world.bonds ≡ false) where
+  joined_new : are_bonded draft.world.bonds pair.0 pair.1 ≡ false → (full first second : Bool) → is_full draft.world.bonds pair.0 ≡ first → is_full draft.world.bonds pair.1 ≡ second → (first || second) ≡ full
       → Joined draft pair (cond full (Err TooManyBonds) (Ok true))
   joined_new new true first second e f g =
-      let is : with_pair draft.bonds pair ≡ with_bond draft.bonds pair.0 pair.1 = ap (λ b. cond b draft.bonds (with_bond draft.bonds pair.0 pair.1)) new in
-      (refl, ap is_overfull is ∙ with_bond-full draft.bonds pair.0 pair.1 ne (omega (arith, rows)) (omega (arith, rows)) (rw (e, f) g))
+      let is : with_pair draft.world.bonds pair ≡ with_bond draft.world.bonds pair.0 pair.1 = ap (λ b. cond b draft.world.bonds (with_bond draft.world.bonds pair.0 pair.1)) new in
+      (refl, ap is_overfull is ∙ with_bond-full draft.world.bonds pair.0 pair.1 ne (omega (arith, rows)) (omega (arith, rows)) (rw (e, f) g))
   joined_new new false first second e f g =
-      let is : with_pair draft.bonds pair ≡ with_bond draft.bonds pair.0 pair.1 = ap (λ b. cond b draft.bonds (with_bond draft.bonds pair.0 pair.1)) new in
-      (is, ap is_overfull is ∙ with_bond-room draft.bonds pair.0 pair.1 room (e ∙ neither_left first second g) (f ∙ neither_right first second g))
+      let is : with_pair draft.world.bonds pair ≡ with_bond draft.world.bonds pair.0 pair.1 = ap (λ b. cond b draft.world.bonds (with_bond draft.world.bonds pair.0 pair.1)) new in
+      (is, ap is_overfull is ∙ with_bond-room draft.world.bonds pair.0 pair.1 room (e ∙ neither_left first second g) (f ∙ neither_right first second g))
 
-  joined_may : may_join draft (slice_get draft.positions pair.0) (slice_get draft.positions pair.1) ≡ true → (t : Bool) → are_bonded draft.bonds pair.0 pair.1 ≡ t
-      → Joined draft pair (cond t (Ok false) (cond (not (may_join draft (slice_get draft.positions pair.0) (slice_get draft.positions pair.1))) (Err BadBond) (cond (is_full draft.bonds pair.0 || is_full draft.bonds pair.1) (Err TooManyBonds) (Ok true))))
+  joined_may : may_join draft.world (slice_get draft.world.positions pair.0) (slice_get draft.world.positions pair.1) ≡ true → (t : Bool) → are_bonded draft.world.bonds pair.0 pair.1 ≡ t
+      → Joined draft pair (cond t (Ok false) (cond (not (may_join draft.world (slice_get draft.world.positions pair.0) (slice_get draft.world.positions pair.1))) (Err BadBond) (cond (is_full draft.world.bonds pair.0 || is_full draft.world.bonds pair.1) (Err TooManyBonds) (Ok true))))
   joined_may may true e =
-      let is : with_pair draft.bonds pair ≡ draft.bonds = ap (λ b. cond b draft.bonds (with_bond draft.bonds pair.0 pair.1)) e in
+      let is : with_pair draft.world.bonds pair ≡ draft.world.bonds = ap (λ b. cond b draft.world.bonds (with_bond draft.world.bonds pair.0 pair.1)) e in
       (is, ap is_overfull is ∙ room)
   joined_may may false e =
-      rw may (joined_new e (is_full draft.bonds pair.0 || is_full draft.bonds pair.1) (is_full draft.bonds pair.0) (is_full draft.bonds pair.1) refl refl refl)
+      rw may (joined_new e (is_full draft.world.bonds pair.0 || is_full draft.world.bonds pair.1) (is_full draft.world.bonds pair.0) (is_full draft.world.bonds pair.1) refl refl refl)
 
   -- two monomers whose bond may run as they stand
-  pub joined : may_join draft (slice_get draft.positions pair.0) (slice_get draft.positions pair.1) ≡ true → Joined draft pair (join_answer draft pair.0 pair.1)
+  pub joined : may_join draft.world (slice_get draft.world.positions pair.0) (slice_get draft.world.positions pair.1) ≡ true → Joined draft pair (join_answer draft pair.0 pair.1)
   joined may =
       let two : is_pair draft.count pair.0 pair.1 ≡ true = both_there in
-      rw two (joined_may may (are_bonded draft.bonds pair.0 pair.1) refl)
+      rw two (joined_may may (are_bonded draft.world.bonds pair.0 pair.1) refl)
     where
       both_there : is_pair draft.count pair.0 pair.1 ≡ true
       both_there = grind (arith, nat_tests)
 
 -- none of them is placed
-pub may_join-unplaced : (draft : Draft) (i j : ℕ) → draft.positions ≡ [] → may_join draft (slice_get draft.positions i) (slice_get draft.positions j) ≡ true
+pub may_join-unplaced : (draft : Draft) (i j : ℕ) → draft.world.positions ≡ [] → may_join draft.world (slice_get draft.world.positions i) (slice_get draft.world.positions j) ≡ true
 may_join-unplaced draft i j e = rw e refl
 
 -- ---- all pairs of a list, one by one
@@ -232,42 +233,42 @@ present count pair h = (first (nat_lt pair.0 count) (nat_lt pair.1 count) refl h
     second false b e g = absurd (cc)
 
 module _ (initial old : Draft) (pairs : List (ℕ × ℕ)) (k : ℕ) (l : k < length pairs)
-    (is : old ≡ record initial { bonds = with_pairs initial.bonds (take k pairs) }) (room : is_overfull (with_pairs initial.bonds (take k pairs)) ≡ false)
+    (is : old ≡ with_bonds initial (with_pairs initial.world.bonds (take k pairs))) (room : is_overfull (with_pairs initial.world.bonds (take k pairs)) ≡ false)
     (there : list_any (is_beyond initial.count) pairs ≡ false) (differ : All (λ (pair : ℕ × ℕ). pair.0 ≢ pair.1) pairs)
-    (unplaced : initial.positions ≡ []) (rows : length initial.bonds ≡ initial.count) where
+    (unplaced : initial.world.positions ≡ []) (rows : length initial.world.bonds ≡ initial.count) where
   abbrev now : ℕ × ℕ
   now = get_or pairs k (0, 0)
 
-  bonds_is : old.bonds ≡ with_pairs initial.bonds (take k pairs)
-  bonds_is = ap (λ (d : Draft). d.bonds) is
+  bonds_is : old.world.bonds ≡ with_pairs initial.world.bonds (take k pairs)
+  bonds_is = ap (λ (d : Draft). d.world.bonds) is
 
   joined_at : Joined old now (join_answer old now.0 now.1)
   joined_at =
       let count : old.count ≡ initial.count = ap (λ (d : Draft). d.count) is in
       let both = present initial.count now (none_at (is_beyond initial.count) pairs k (0, 0) l there) in
-      joined old now (differ k (0, 0) l) (ap (λ (b : List (List ℕ)). length b) bonds_is ∙ (length-with_pairs initial.bonds (take k pairs) ∙ (rows ∙ sym count)))
+      joined old now (differ k (0, 0) l) (ap (λ (b : List (List ℕ)). length b) bonds_is ∙ (length-with_pairs initial.world.bonds (take k pairs) ∙ (rows ∙ sym count)))
       (omega (arith, both.0, count)) (omega (arith, both.1, count)) (ap is_overfull bonds_is ∙ room)
-      (may_join-unplaced old now.0 now.1 (ap (λ (d : Draft). d.positions) is ∙ unplaced))
+      (may_join-unplaced old now.0 now.1 (ap (λ (d : Draft). d.world.positions) is ∙ unplaced))
 
-  more : with_pair old.bonds now ≡ with_pairs initial.bonds (take (k + 1) pairs)
-  more = ap (λ b. with_pair b now) bonds_is ∙ sym (with_pairs-take initial.bonds pairs k (0, 0) l)
+  more : with_pair old.world.bonds now ≡ with_pairs initial.world.bonds (take (k + 1) pairs)
+  more = ap (λ b. with_pair b now) bonds_is ∙ sym (with_pairs-take initial.world.bonds pairs k (0, 0) l)
 
   -- a join that is refused
-  pub join_refused : (cause : Cause) → join_answer old now.0 now.1 ≡ Err cause → (cause ≡ TooManyBonds) × (is_overfull (with_pairs initial.bonds pairs) ≡ true)
+  pub join_refused : (cause : Cause) → join_answer old now.0 now.1 ≡ Err cause → (cause ≡ TooManyBonds) × (is_overfull (with_pairs initial.world.bonds pairs) ≡ true)
   join_refused cause e =
       let refused = subst (Joined old now) e joined_at in
-      (refused.0, with_pairs-overfull_at initial.bonds pairs (k + 1) (sym (ap is_overfull more) ∙ refused.1))
+      (refused.0, with_pairs-overfull_at initial.world.bonds pairs (k + 1) (sym (ap is_overfull more) ∙ refused.1))
 
   -- a join that is not
-  pub join_done : (new : Draft) (b : Bool) → join_answer old now.0 now.1 ≡ Ok b → (b ≡ true → new ≡ record old { bonds = with_bond old.bonds now.0 now.1 }) → (b ≡ false → new ≡ old)
-      → (new ≡ record initial { bonds = with_pairs initial.bonds (take (k + 1) pairs) }) × (is_overfull (with_pairs initial.bonds (take (k + 1) pairs)) ≡ false)
+  pub join_done : (new : Draft) (b : Bool) → join_answer old now.0 now.1 ≡ Ok b → (b ≡ true → new ≡ with_bonds old (with_bond old.world.bonds now.0 now.1)) → (b ≡ false → new ≡ old)
+      → (new ≡ with_bonds initial (with_pairs initial.world.bonds (take (k + 1) pairs))) × (is_overfull (with_pairs initial.world.bonds (take (k + 1) pairs)) ≡ false)
   join_done new true e joins same =
       let done = subst (Joined old now) e joined_at in (
-        joins refl ∙ (ap (λ (b : List (List ℕ)). record old { bonds = b }) (sym done.0 ∙ more) ∙ ap (λ (d : Draft). record d { bonds = with_pairs initial.bonds (take (k + 1) pairs) }) is),
+        joins refl ∙ (ap (λ (b : List (List ℕ)). with_bonds old b) (sym done.0 ∙ more) ∙ ap (λ (d : Draft). with_bonds d (with_pairs initial.world.bonds (take (k + 1) pairs))) is),
         sym (ap is_overfull more) ∙ done.1,
       )
   join_done new false e joins same =
       let done = subst (Joined old now) e joined_at in (
-        same refl ∙ (is ∙ ap (λ (b : List (List ℕ)). record initial { bonds = b }) (sym bonds_is ∙ (sym done.0 ∙ more))),
+        same refl ∙ (is ∙ ap (λ (b : List (List ℕ)). with_bonds initial b) (sym bonds_is ∙ (sym done.0 ∙ more))),
         sym (ap is_overfull more) ∙ done.1,
       )

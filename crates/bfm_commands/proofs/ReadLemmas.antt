@@ -62,7 +62,7 @@ verdict_of-end bytes rest lines s e =
     ap (λ ls. whole_or (length bytes) ls (first_wrong [] (finished_lines bytes))) (sym s.order ∙ ap (newest_first lines) e)
     ∙ ap (whole_or (length bytes) lines) (sym s.wrong ∙ ap (first_wrong lines) e)
 
-not_whole : (bytes rest : List ℕ) (lines : List (List ℕ)) (count : ℕ) (whole : Bool) → HasRead bytes rest lines → finished_lines rest ≡ [] → ((rank (section_of lines) == 3) && (length (draft_of lines).positions == (draft_of lines).count)) ≡ whole
+not_whole : (bytes rest : List ℕ) (lines : List (List ℕ)) (count : ℕ) (whole : Bool) → HasRead bytes rest lines → finished_lines rest ≡ [] → ((rank (section_of lines) == 3) && (length (draft_of lines).world.positions == (draft_of lines).count)) ≡ whole
     → whole ≡ false → count ≡ length lines → IsStop (stop_of count (faults.Refused NoFrame)) (verdict_of bytes)
 not_whole bytes rest lines count whole s e w f n =
     verdict_of-end bytes rest lines s e
@@ -72,17 +72,17 @@ not_whole bytes rest lines count whole s e w f n =
 -- it ends before its frame
 pub IsStop-header : (bytes rest : List ℕ) (lines : List (List ℕ)) (count : ℕ) → HasRead bytes rest lines → finished_lines rest ≡ [] → rank (section_of lines) < 3 → count ≡ length lines
     → IsStop (stop_of count (faults.Refused NoFrame)) (verdict_of bytes)
-IsStop-header bytes rest lines count s e l n = not_whole bytes rest lines count _ s e refl (by_test (rank (section_of lines)) (length (draft_of lines).positions == (draft_of lines).count) l) n
+IsStop-header bytes rest lines count s e l n = not_whole bytes rest lines count _ s e refl (by_test (rank (section_of lines)) (length (draft_of lines).world.positions == (draft_of lines).count) l) n
   where
     by_test : (r : ℕ) (t : Bool) → r < 3 → ((r == 3) && t) ≡ false
     by_test r t l = let no : (r == 3) ≡ false = grind (arith, nat_tests) in ap (λ b. b && t) no
 
 -- it ends before the frame is whole
 pub IsStop-frame : (bytes rest : List ℕ) (lines : List (List ℕ)) (builder : Draft) (count : ℕ) → HasRead bytes rest lines → finished_lines rest ≡ [] → IsFrame builder lines
-    → (length builder.positions == builder.count) ≡ false → count ≡ length lines → IsStop (stop_of count (faults.Refused NoFrame)) (verdict_of bytes)
+    → (length builder.world.positions == builder.count) ≡ false → count ≡ length lines → IsStop (stop_of count (faults.Refused NoFrame)) (verdict_of bytes)
 IsStop-frame bytes rest lines builder count s e f part n =
     not_whole bytes rest lines count _ s e refl
-    (and_false (rank (section_of lines) == 3) _ (ap (λ (d : Draft). length d.positions == d.count) (sym f.draft) ∙ part)) n
+    (and_false (rank (section_of lines) == 3) _ (ap (λ (d : Draft). length d.world.positions == d.count) (sym f.draft) ∙ part)) n
   where
     and_false : (a b : Bool) → b ≡ false → (a && b) ≡ false
     and_false true b h = h
@@ -90,12 +90,12 @@ IsStop-frame bytes rest lines builder count s e f part n =
 
 -- it is accepted
 pub verdict_of-whole : (bytes rest : List ℕ) (lines : List (List ℕ)) (builder : Draft) → HasRead bytes rest lines → finished_lines rest ≡ [] → IsFrame builder lines
-    → (length builder.positions == builder.count) ≡ true → verdict_of bytes ≡ Ok (loaded_of (length bytes) lines)
+    → (length builder.world.positions == builder.count) ≡ true → verdict_of bytes ≡ Ok (loaded_of (length bytes) lines)
 verdict_of-whole bytes rest lines builder s e f whole =
     let frame : (rank (section_of lines) == 3) ≡ true = is_three (rank (section_of lines)) f.section in
-    let full : (length (draft_of lines).positions == (draft_of lines).count) ≡ true = ap (λ (d : Draft). length d.positions == d.count) (sym f.draft) ∙ whole in
+    let full : (length (draft_of lines).world.positions == (draft_of lines).count) ≡ true = ap (λ (d : Draft). length d.world.positions == d.count) (sym f.draft) ∙ whole in
     verdict_of-end bytes rest lines s e
-    ∙ (ap (λ t. cond (t && (length (draft_of lines).positions == (draft_of lines).count)) (Ok (loaded_of (length bytes) lines)) (Err (record { line = length lines + 1; cause = NoFrame }))) frame
+    ∙ (ap (λ t. cond (t && (length (draft_of lines).world.positions == (draft_of lines).count)) (Ok (loaded_of (length bytes) lines)) (Err (record { line = length lines + 1; cause = NoFrame }))) frame
     ∙ ap (λ t. cond t (Ok (loaded_of (length bytes) lines)) (Err (record { line = length lines + 1; cause = NoFrame }))) full)
   where
     is_three : (n : ℕ) → n ≡ 3 → (n == 3) ≡ true
@@ -192,17 +192,17 @@ module _ (bytes : List ℕ) (header : Header) (mcs : ℕ) (rest : List ℕ) (r :
   HeaderRead-time = r.begins.time
 
 -- what an accepted file gives, in the words of the reader
-pub verdict_of-read : (bytes rest : List ℕ) (builder : Draft) (mcs count kept : ℕ) (world : Configuration) (first : List P3) → FrameRead bytes builder mcs count rest → length builder.positions ≡ builder.count
-    → world ≡ record { shape = builder.shape; set = builder.set; positions = builder.positions; bonds = builder.bonds } → first ≡ builder.positions → kept ≡ length bytes - length rest
+pub verdict_of-read : (bytes rest : List ℕ) (builder : Draft) (mcs count kept : ℕ) (world : Configuration) (first : List P3) → FrameRead bytes builder mcs count rest → length builder.world.positions ≡ builder.count
+    → world ≡ record { shape = builder.world.shape; set = builder.world.set; positions = builder.world.positions; bonds = builder.world.bonds } → first ≡ builder.world.positions → kept ≡ length bytes - length rest
     → verdict_of bytes ≡ Ok (record { world = world; first = first; mcs = mcs; frames = 1; kept = kept; total = length bytes; skipped = 0 })
 verdict_of-read bytes rest builder mcs count kept world first r whole is_world is_first is_kept =
     let loaded : Configuration → List P3 → ℕ → ℕ → Loaded = λ w f m k. record { world = w; first = f; mcs = m; frames = 1; kept = k; total = length bytes; skipped = 0 } in
-    let config : Draft → Configuration = λ d. record { shape = d.shape; set = d.set; positions = d.positions; bonds = d.bonds } in
+    let config : Draft → Configuration = λ d. record { shape = d.world.shape; set = d.world.set; positions = d.world.positions; bonds = d.world.bonds } in
     let same : bytes_in r.lines ≡ kept = omega (arith, r.read.count) in
-    verdict_of-whole bytes rest r.lines builder r.read r.end r.frame (equal (length builder.positions) builder.count whole)
+    verdict_of-whole bytes rest r.lines builder r.read r.end r.frame (equal (length builder.world.positions) builder.count whole)
     ∙ ap Ok (
-    ap (λ (d : Draft). loaded (config d) d.positions (mcs_of r.lines) (bytes_in r.lines)) (sym r.frame.draft)
-    ∙ (ap (λ w. loaded w builder.positions (mcs_of r.lines) (bytes_in r.lines)) (sym is_world)
+    ap (λ (d : Draft). loaded (config d) d.world.positions (mcs_of r.lines) (bytes_in r.lines)) (sym r.frame.draft)
+    ∙ (ap (λ w. loaded w builder.world.positions (mcs_of r.lines) (bytes_in r.lines)) (sym is_world)
     ∙ (ap (λ f. loaded world f (mcs_of r.lines) (bytes_in r.lines)) (sym is_first)
     ∙ (ap (λ m. loaded world first m (bytes_in r.lines)) r.time ∙ ap (loaded world first mcs) same)))
     )
@@ -210,9 +210,9 @@ verdict_of-read bytes rest builder mcs count kept world first r whole is_world i
     equal : (m n : ℕ) → m ≡ n → (m == n) ≡ true
     equal m n e = grind (arith, nat_tests)
 
-pub IsStop-part : (bytes rest : List ℕ) (builder : Draft) (mcs count : ℕ) → FrameRead bytes builder mcs count rest → length builder.positions ≢ builder.count → IsStop (stop_of count (faults.Refused NoFrame)) (verdict_of bytes)
+pub IsStop-part : (bytes rest : List ℕ) (builder : Draft) (mcs count : ℕ) → FrameRead bytes builder mcs count rest → length builder.world.positions ≢ builder.count → IsStop (stop_of count (faults.Refused NoFrame)) (verdict_of bytes)
 IsStop-part bytes rest builder mcs count r part =
-    IsStop-frame bytes rest r.lines builder count r.read r.end r.frame (differ (length builder.positions) builder.count part) r.counted
+    IsStop-frame bytes rest r.lines builder count r.read r.end r.frame (differ (length builder.world.positions) builder.count part) r.counted
   where
     differ : (m n : ℕ) → m ≢ n → (m == n) ≡ false
     differ m n e = grind (arith, nat_tests)

@@ -33,7 +33,7 @@ module _ (builder : Draft) (lines : List (List ℕ)) (line : List ℕ) (s : IsFr
       at_least : (n : ℕ) → 7 ≤ n → nat_lt n 7 ≡ false
       at_least n l = grind (arith, nat_tests)
 
-  module _ (part : nat_le builder.count (length builder.positions) ≡ false) where
+  module _ (part : nat_le builder.count (length builder.world.positions) ≡ false) where
     cause_of-part : cause_of lines line ≡ entered (string_cause builder) (frame_line (without_return line))
     cause_of-part = cause_of-frame ∙ ap (λ t. cond t (Some Unbuilt) (entered (string_cause builder) (frame_line (without_return line)))) part
 
@@ -45,37 +45,37 @@ module _ (builder : Draft) (lines : List (List ℕ)) (line : List ℕ) (s : IsFr
       cause_of-string : cause_of lines line ≡ string_cause builder entry
       cause_of-string = cause_of-part ∙ ap (entered (string_cause builder)) is
 
-      pub refused-unknown : list_all (λ id. is_some (vector_of builder.set id)) entry.1 ≡ false → cause_of lines line ≡ Some UnknownId
+      pub refused-unknown : list_all (λ id. is_some (vector_of builder.world.set id)) entry.1 ≡ false → cause_of lines line ≡ Some UnknownId
       refused-unknown h =
-          cause_of-string ∙ ap (λ t. cond (not t) (Some UnknownId) (cond (nat_lt builder.count (length builder.positions + 1 + length entry.1)) (Some FrameLong) (positions_cause builder (string_positions builder.set entry)))) h
+          cause_of-string ∙ ap (λ t. cond (not t) (Some UnknownId) (cond (nat_lt builder.count (length builder.world.positions + 1 + length entry.1)) (Some FrameLong) (positions_cause builder (string_positions builder.world.set entry)))) h
 
-      module _ (known : list_all (λ id. is_some (vector_of builder.set id)) entry.1 ≡ true) where
-        cause_of-known : cause_of lines line ≡ cond (nat_lt builder.count (length builder.positions + 1 + length entry.1)) (Some FrameLong) (positions_cause builder (string_positions builder.set entry))
+      module _ (known : list_all (λ id. is_some (vector_of builder.world.set id)) entry.1 ≡ true) where
+        cause_of-known : cause_of lines line ≡ cond (nat_lt builder.count (length builder.world.positions + 1 + length entry.1)) (Some FrameLong) (positions_cause builder (string_positions builder.world.set entry))
         cause_of-known =
-            cause_of-string ∙ ap (λ t. cond (not t) (Some UnknownId) (cond (nat_lt builder.count (length builder.positions + 1 + length entry.1)) (Some FrameLong) (positions_cause builder (string_positions builder.set entry)))) known
+            cause_of-string ∙ ap (λ t. cond (not t) (Some UnknownId) (cond (nat_lt builder.count (length builder.world.positions + 1 + length entry.1)) (Some FrameLong) (positions_cause builder (string_positions builder.world.set entry)))) known
 
-        pub refused-long : builder.count < length builder.positions + 1 + length entry.1 → cause_of lines line ≡ Some FrameLong
-        refused-long l = cause_of-known ∙ ap (λ t. cond t (Some FrameLong) (positions_cause builder (string_positions builder.set entry))) (more builder.count (length builder.positions + 1 + length entry.1) l)
+        pub refused-long : builder.count < length builder.world.positions + 1 + length entry.1 → cause_of lines line ≡ Some FrameLong
+        refused-long l = cause_of-known ∙ ap (λ t. cond t (Some FrameLong) (positions_cause builder (string_positions builder.world.set entry))) (more builder.count (length builder.world.positions + 1 + length entry.1) l)
           where
             more : (m n : ℕ) → m < n → nat_lt m n ≡ true
             more m n l = grind (arith, nat_tests)
 
-        module _ (room : length builder.positions + 1 + length entry.1 ≤ builder.count) where
-          pub cause_of-room : cause_of lines line ≡ positions_cause builder (string_positions builder.set entry)
-          cause_of-room = cause_of-known ∙ ap (λ t. cond t (Some FrameLong) (positions_cause builder (string_positions builder.set entry))) (no_more builder.count (length builder.positions + 1 + length entry.1) room)
+        module _ (room : length builder.world.positions + 1 + length entry.1 ≤ builder.count) where
+          pub cause_of-room : cause_of lines line ≡ positions_cause builder (string_positions builder.world.set entry)
+          cause_of-room = cause_of-known ∙ ap (λ t. cond t (Some FrameLong) (positions_cause builder (string_positions builder.world.set entry))) (no_more builder.count (length builder.world.positions + 1 + length entry.1) room)
             where
               no_more : (m n : ℕ) → n ≤ m → nat_lt m n ≡ false
               no_more m n l = grind (arith, nat_tests)
 
           -- a line that is right goes into the frame
-          pub IsFrame-taken : (new : Draft) → new ≡ with_line builder (string_positions builder.set entry) → positions_cause builder (string_positions builder.set entry) ≡ None
+          pub IsFrame-taken : (new : Draft) → new ≡ with_line builder (string_positions builder.world.set entry) → positions_cause builder (string_positions builder.world.set entry) ≡ None
               → (cause_of lines line ≡ None) × IsFrame new (line ∷ lines)
           IsFrame-taken new e none = (
             cause_of-room ∙ none,
             record {
               values = omega (arith, s.values);
               section = still_frame (section_of lines) s.section;
-              draft = e ∙ (ap (λ d. with_line d (string_positions d.set entry)) s.draft ∙ (ap (λ r. with_line (draft_of lines) (line_positions (draft_of lines).set r)) (sym is) ∙ sym (draft_in-frame (section_of lines) s.section)));
+              draft = e ∙ (ap (λ d. with_line d (string_positions d.world.set entry)) s.draft ∙ (ap (λ r. with_line (draft_of lines) (line_positions (draft_of lines).world.set r)) (sym is) ∙ sym (draft_in-frame (section_of lines) s.section)));
             },
           )
             where
@@ -85,7 +85,7 @@ module _ (builder : Draft) (lines : List (List ℕ)) (line : List ℕ) (s : IsFr
               still_frame Bonds h = absurd (omega arith)
               still_frame Frame h = refl
 
-              draft_in-frame : (section : Section) → rank section ≡ 3 → draft_in section lines (draft_of lines) line ≡ with_line (draft_of lines) (line_positions (draft_of lines).set (frame_line (without_return line)))
+              draft_in-frame : (section : Section) → rank section ≡ 3 → draft_in section lines (draft_of lines) line ≡ with_line (draft_of lines) (line_positions (draft_of lines).world.set (frame_line (without_return line)))
               draft_in-frame Head h = absurd (omega arith)
               draft_in-frame Vectors h = absurd (omega arith)
               draft_in-frame Bonds h = absurd (omega arith)

@@ -50,9 +50,9 @@ along true side d v l e h = ap (wrapped_along true side) e ∙ wrapped_along-nea
 wrapped-step : (shape : Shape) (p v : P3) → IsBox shape → extent_of v ≤ 3 → wrapped shape (minus (plus p v) p) ≡ v
 wrapped-step shape p v box h =
     P3-same _ v
-    (along (is_periodic shape 0) (side_of shape 0) ((p.x +ℤ v.x) -ℤ p.x) v.x box.x.0 (omega (arith, ints)) (omega arith))
-    (along (is_periodic shape 1) (side_of shape 1) ((p.y +ℤ v.y) -ℤ p.y) v.y box.y.0 (omega (arith, ints)) (omega arith))
-    (along (is_periodic shape 2) (side_of shape 2) ((p.z +ℤ v.z) -ℤ p.z) v.z box.z.0 (omega (arith, ints)) (omega arith))
+    (along (is_periodic shape 0) (side_of shape 0) ((p.x +ℤ v.x) -ℤ p.x) v.x box.sides.x.0 (omega (arith, ints)) (omega arith))
+    (along (is_periodic shape 1) (side_of shape 1) ((p.y +ℤ v.y) -ℤ p.y) v.y box.sides.y.0 (omega (arith, ints)) (omega arith))
+    (along (is_periodic shape 2) (side_of shape 2) ((p.z +ℤ v.z) -ℤ p.z) v.z box.sides.z.0 (omega (arith, ints)) (omega arith))
 
 may_bond-step : (shape : Shape) (set : List (P3 × ℕ)) (p : P3) (id : ℕ) (o : Option P3) → IsBox shape → IsBondSet set → vector_of set id ≡ o → is_some o ≡ true → may_bond shape set p (plus p (unwrap_or o zero_place)) ≡ true
 may_bond-step shape set p id None box s e h = absurd (cc)

@@ -1,13 +1,15 @@
 -- Why a line is wrong after the finished lines before it, which come newest first: the least-numbered cause.
-use Rattle.std.specs.Prelude.{ℕ, ◌+◌, ◌*◌, ◌^◌, Bool, false, not, ◌&&◌, ◌||◌, ◌==◌, nat_lt, nat_le, List, [], ◌∷◌, ◌++◌, length, Option, None, Some, is_some, Result, Ok, Err, if◌then◌else◌}
+use Rattle.std.specs.Prelude.{ℕ, ◌+◌, ◌*◌, Bool, false, not, ◌&&◌, ◌||◌, ◌==◌, nat_lt, nat_le, List, [], ◌∷◌, ◌++◌, length, Option, None, Some, is_some, Result, Ok, Err, if◌then◌else◌}
 use Rattle.std.specs.List.{list_any, list_all}
+use Rattle.bfm_base.specs.declared.limits.TheConstants.{MOST_SITES, MOST_BONDS}
 use Rattle.bfm_base.specs.declared.place.P3.{P3}
 use Rattle.bfm_base.specs.declared.cause.Cause.{Cause}
 use Rattle.bfm_base.specs.declared.cause.Cause.TheVariants.{OutOfLimit, NotSymmetric, UnknownId, FrameLong, Outside, Overlap, BadMonomer, BadBond, TooManyBonds, Unbuilt}
 use Rattle.bond_set.specs.BondSet.{refusal_of, vector_of, first_unpaired}
-use Rattle.bfm_world.specs.Bonds.{neighbours_of, most_bonds}
-use Rattle.bfm_world.specs.Configuration.{is_within_walls, is_clear, keeps_bonds}
-use Rattle.bfm_world.specs.Draft.{Draft}
+use Rattle.bfm_world.specs.Bonds.{neighbours_of}
+use Rattle.bfm_geom.specs.Walls.{is_within_walls}
+use Rattle.bfm_world.specs.Configuration.{Configuration, is_clear, keeps_bonds}
+use Rattle.bfm_world.specs.Draft.{Draft, with_bonds}
 use Rattle.bfm_lexer.specs.Lines.{without_return, is_long}
 use Rattle.bfm_commands.specs.Numbers.{given}
 use Rattle.bfm_commands.specs.Entries.{vector_entry, bond_entry, frame_line}
@@ -18,10 +20,10 @@ use Rattle.bfm_commands.specs.declared.section.Section.TheVariants.{Head, Vector
 -- The value of a command, unless it makes the box too large: the number of sites is known at the third side, where
 -- the two sides before it span this area.
 abbrev pub fitting : ℕ → ℕ → Option ℕ → Option ℕ
-fitting place area None = None
-fitting place area (Some value) = if (place == 3) && nat_lt (2 ^ 24) (area * value) then None else Some value
+fitting index area None = None
+fitting index area (Some value) = if (index == 3) && nat_lt MOST_SITES (area * value) then None else Some value
 
--- one of the seven commands with a value stands at its place
+-- the next of the seven commands with a value stands here
 abbrev pub value_cause : List (List ℕ) → List ℕ → Option Cause
 value_cause before text =
     if is_some (fitting (length before) (value_at before 1 * value_at before 2) (given (setting_at (length before)) text))
@@ -41,7 +43,7 @@ bond_cause text = entered (λ pair. None) (bond_entry text)
 
 -- some monomer has more bonds than it may have
 abbrev pub is_overfull : List (List ℕ) → Bool
-is_overfull bonds = list_any (λ row. nat_lt most_bonds (length row)) bonds
+is_overfull bonds = list_any (λ row. nat_lt MOST_BONDS (length row)) bonds
 
 -- a pair has a monomer that is not there
 abbrev pub is_beyond : ℕ → ℕ × ℕ → Bool
@@ -60,40 +62,41 @@ abbrev pub some_fails : (List P3 → P3 → Bool) → List P3 → List P3 → Bo
 some_fails test before [] = false
 some_fails test before (p ∷ ps) = not (test before p) || some_fails test (before ++ p ∷ []) ps
 
-abbrev pub is_apart : Draft → List P3 → P3 → Bool
-is_apart draft before p = is_clear draft.shape before p
+abbrev pub is_apart : Configuration → List P3 → P3 → Bool
+is_apart w before p = is_clear w.shape before p
 
-abbrev pub is_bonded_well : Draft → List P3 → P3 → Bool
-is_bonded_well draft before p = keeps_bonds draft.shape draft.set before (neighbours_of draft.bonds (length before)) p
+abbrev pub is_bonded_well : Configuration → List P3 → P3 → Bool
+is_bonded_well w before p = keeps_bonds w.shape w.set before (neighbours_of w.bonds (length before)) p
 
--- the positions that a frame line gives
-abbrev pub placing_cause : Draft → List P3 → Option Cause
-placing_cause draft ps =
-    if some_fails (λ before p. is_within_walls draft.shape p) draft.positions ps then Some Outside
-    else if some_fails (is_apart draft) draft.positions ps then Some Overlap
-    else if some_fails (is_bonded_well draft) draft.positions ps then Some BadBond
+-- more positions in a world, and its bonds
+abbrev pub placing_cause : Configuration → List P3 → Option Cause
+placing_cause w ps =
+    if some_fails (λ before p. is_within_walls w.shape p) w.positions ps then Some Outside
+    else if some_fails (is_apart w) w.positions ps then Some Overlap
+    else if some_fails (is_bonded_well w) w.positions ps then Some BadBond
     else None
 
 abbrev pub or_else : Option Cause → Option Cause → Option Cause
 or_else None later = later
 or_else (Some cause) later = Some cause
 
--- the same, and the bonds between successive monomers of the line
+-- The positions that a frame line gives. Its successive monomers are bonded, and those bonds count with the others.
 abbrev pub positions_cause : Draft → List P3 → Option Cause
 positions_cause draft ps =
-    or_else (placing_cause draft ps) (if is_overfull (with_line draft ps).bonds then Some TooManyBonds else None)
+    let bonds = (with_line draft ps).world.bonds in
+    or_else (placing_cause (with_bonds draft bonds).world ps) (if is_overfull bonds then Some TooManyBonds else None)
 
 -- a frame line with the position of its first monomer and its identifiers
 abbrev pub string_cause : Draft → P3 × List ℕ → Option Cause
 string_cause draft line =
-    if not (list_all (λ id. is_some (vector_of draft.set id)) line.1) then Some UnknownId
-    else if nat_lt draft.count (length draft.positions + 1 + length line.1) then Some FrameLong
-    else positions_cause draft (string_positions draft.set line)
+    if not (list_all (λ id. is_some (vector_of draft.world.set id)) line.1) then Some UnknownId
+    else if nat_lt draft.count (length draft.world.positions + 1 + length line.1) then Some FrameLong
+    else positions_cause draft (string_positions draft.world.set line)
 
 -- No line stands behind a whole frame.
 abbrev pub frame_cause : Draft → List ℕ → Option Cause
 frame_cause draft text =
-    if nat_le draft.count (length draft.positions) then Some Unbuilt else entered (string_cause draft) (frame_line text)
+    if nat_le draft.count (length draft.world.positions) then Some Unbuilt else entered (string_cause draft) (frame_line text)
 
 -- the order of the sections
 abbrev pub rank : Section → ℕ

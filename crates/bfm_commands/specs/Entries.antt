@@ -1,7 +1,8 @@
 -- The forms of entries and of frame lines, which are given without newline and without one carriage return at the
 -- end. A line of another form is not built yet.
-use Rattle.std.specs.Prelude.{ℕ, ◌-◌, ◌^◌, Bool, false, not, ◌&&◌, nat_le, ℤ, pos, negsuc, unsigned_abs, List, [], Option, None, Some, option_and_then, Result, Ok, Err, if◌then◌else◌}
+use Rattle.std.specs.Prelude.{ℕ, ◌-◌, Bool, false, not, ◌&&◌, nat_le, ℤ, pos, negsuc, unsigned_abs, List, [], Option, None, Some, option_and_then, Result, Ok, Err, if◌then◌else◌}
 use Rattle.std.specs.Ordering.{int_eq}
+use Rattle.bfm_base.specs.declared.limits.TheConstants.{MOST_MONOMERS, START_REACH, GREATEST_NUMBER}
 use Rattle.bfm_base.specs.declared.place.P3.{P3}
 use Rattle.bfm_base.specs.Place.{extent_of}
 use Rattle.bfm_base.specs.declared.cause.Cause.{Cause}
@@ -31,7 +32,7 @@ vector_numbers line =
 
 abbrev pub limited_vector : Option (P3 × ℤ) → Result (P3 × ℤ) Cause
 limited_vector None = Err Unbuilt
-limited_vector (Some e) = if nat_le (extent_of e.0) (2 ^ 62) && nat_le (unsigned_abs e.1) (2 ^ 62) then Ok e else Err OutOfLimit
+limited_vector (Some e) = if nat_le (extent_of e.0) GREATEST_NUMBER && nat_le (unsigned_abs e.1) GREATEST_NUMBER then Ok e else Err OutOfLimit
 
 -- a vector and its identifier, or why the entry gives none
 abbrev pub vector_entry : List ℕ → Result (P3 × ℤ) Cause
@@ -43,7 +44,7 @@ pair_numbers line = option_and_then (λ parts. both (number_of parts.0) (number_
 
 -- a monomer's number in a file
 abbrev pub is_monomer : ℤ → Bool
-is_monomer (pos n) = nat_le 1 n && nat_le n (2 ^ 18)
+is_monomer (pos n) = nat_le 1 n && nat_le n MOST_MONOMERS
 is_monomer (negsuc n) = false
 
 abbrev pub limited_pair : Option (ℤ × ℤ) → Result (ℕ × ℕ) Cause
@@ -75,21 +76,21 @@ frame_numbers line =
 
 abbrev pub limited_frame : Option (P3 × List ℕ) → Result (P3 × List ℕ) Cause
 limited_frame None = Err Unbuilt
-limited_frame (Some e) = if nat_le (extent_of e.0) (2 ^ 44) then Ok e else Err OutOfLimit
+limited_frame (Some e) = if nat_le (extent_of e.0) START_REACH then Ok e else Err OutOfLimit
 
 -- the position of a line's first monomer and its identifiers, or why the line gives none
 abbrev pub frame_line : List ℕ → Result (P3 × List ℕ) Cause
 frame_line line = limited_frame (frame_numbers line)
 
--- The readings of a text and of three: another form is a cause, and a number that is too large for its place leaves
+-- The readings of a text and of three: another form is a cause, and a number that is too large leaves
 -- nothing, since the form of a whole entry is judged first.
 abbrev pub sized_number : Option ℤ → Result (Option ℤ) Cause
 sized_number None = Err Unbuilt
-sized_number (Some n) = Ok (if nat_le (unsigned_abs n) (2 ^ 62) then Some n else None)
+sized_number (Some n) = Ok (if nat_le (unsigned_abs n) GREATEST_NUMBER then Some n else None)
 
 abbrev pub sized_place : Option P3 → Result (Option P3) Cause
 sized_place None = Err Unbuilt
-sized_place (Some p) = Ok (if nat_le (extent_of p) (2 ^ 62) then Some p else None)
+sized_place (Some p) = Ok (if nat_le (extent_of p) GREATEST_NUMBER then Some p else None)
 
 -- the same of a monomer's number, counted from 0
 abbrev pub sized_monomer : Option ℤ → Result (Option ℕ) Cause

@@ -1,13 +1,14 @@
 -- What the finished lines before a line give. They come newest first, so that what a line adds is told by it and by
 -- the lines before it.
-use Rattle.std.specs.Prelude.{ℕ, zero, suc, ◌+◌, ◌^◌, ◌==◌, ℤ, unsigned_abs, List, [], ◌∷◌, ◌++◌, length, codes, slice_index_or, replicate, Option, None, Some, is_some, unwrap_or, Result, Ok, Err, pos, if◌then◌else◌}
+use Rattle.std.specs.Prelude.{ℕ, zero, suc, ◌+◌, ◌==◌, ℤ, unsigned_abs, List, [], ◌∷◌, ◌++◌, length, codes, slice_index_or, replicate, Option, None, Some, is_some, unwrap_or, Result, Ok, Err, pos, if◌then◌else◌}
 use Rattle.std.specs.Str.{bytes_eq}
+use Rattle.bfm_base.specs.declared.limits.TheConstants.{MOST_MONOMERS, LEAST_SIDE, GREATEST_SIDE, GREATEST_MCS}
 use Rattle.bfm_base.specs.declared.place.P3.{P3}
 use Rattle.bfm_base.specs.declared.place.Shape.{Shape}
 use Rattle.bfm_geom.specs.Difference.{plus}
 use Rattle.bond_set.specs.BondSet.{vector_of}
 use Rattle.bfm_world.specs.Bonds.{are_bonded, with_bond}
-use Rattle.bfm_world.specs.Draft.{Draft}
+use Rattle.bfm_world.specs.Draft.{Draft, begun, with_positions, with_bonds}
 use Rattle.bfm_lexer.specs.Lines.{without_return}
 use Rattle.bfm_commands.specs.Numbers.{Setting, given}
 use Rattle.bfm_commands.specs.Entries.{vector_entry, bond_entry, frame_line}
@@ -17,26 +18,26 @@ use Rattle.bfm_commands.specs.declared.section.Section.TheVariants.{Head, Vector
 -- the commands with a value, in the order in which they stand
 abbrev pub settings : List Setting
 settings =
-    record { name = codes "!number_of_monomers"; least = 1; greatest = 2 ^ 18 }
-    ∷ record { name = codes "!box_x"; least = 8; greatest = 512 }
-    ∷ record { name = codes "!box_y"; least = 8; greatest = 512 }
-    ∷ record { name = codes "!box_z"; least = 8; greatest = 512 }
+    record { name = codes "!number_of_monomers"; least = 1; greatest = MOST_MONOMERS }
+    ∷ record { name = codes "!box_x"; least = LEAST_SIDE; greatest = GREATEST_SIDE }
+    ∷ record { name = codes "!box_y"; least = LEAST_SIDE; greatest = GREATEST_SIDE }
+    ∷ record { name = codes "!box_z"; least = LEAST_SIDE; greatest = GREATEST_SIDE }
     ∷ record { name = codes "!periodic_x"; least = 0; greatest = 1 }
     ∷ record { name = codes "!periodic_y"; least = 0; greatest = 1 }
     ∷ record { name = codes "!periodic_z"; least = 0; greatest = 1 }
     ∷ []
 
 abbrev pub time_setting : Setting
-time_setting = record { name = codes "!mcs"; least = 0; greatest = 2 ^ 40 }
+time_setting = record { name = codes "!mcs"; least = 0; greatest = GREATEST_MCS }
 
 abbrev pub setting_at : ℕ → Setting
-setting_at place = slice_index_or settings place (record { name = []; least = 0; greatest = 0 })
+setting_at index = slice_index_or settings index (record { name = []; least = 0; greatest = 0 })
 
--- the value of the command at a place: that of the line before which so many lines stand
+-- the value of a command, counted from 0: that of the line before which so many lines stand
 abbrev pub value_at : List (List ℕ) → ℕ → ℕ
-value_at [] place = 0
-value_at (line ∷ before) place =
-    if length before == place then unwrap_or (given (setting_at place) (without_return line)) 0 else value_at before place
+value_at [] index = 0
+value_at (line ∷ before) index =
+    if length before == index then unwrap_or (given (setting_at index) (without_return line)) 0 else value_at before index
 
 abbrev pub count_of : List (List ℕ) → ℕ
 count_of before = value_at before 0
@@ -145,23 +146,16 @@ chain k (suc n) = (k, k + 1) ∷ chain (k + 1) n
 -- the positions and bonds with those of one more frame line
 abbrev pub with_line : Draft → List P3 → Draft
 with_line draft [] = draft
-with_line draft (p ∷ ps) = record draft {
-  positions = draft.positions ++ p ∷ ps;
-  bonds = with_pairs draft.bonds (chain (length draft.positions) (length ps));
-}
+with_line draft (p ∷ ps) =
+    let placed = with_positions draft (draft.world.positions ++ p ∷ ps) in
+    with_bonds placed (with_pairs draft.world.bonds (chain (length draft.world.positions) (length ps)))
 
 -- the world as far as the lines of the frame give it
 abbrev pub begun_frame : List (List ℕ) → Draft
-begun_frame before = record {
-  shape = shape_of before;
-  set = set_of before;
-  count = count_of before;
-  positions = [];
-  bonds = listed_bonds before;
-}
+begun_frame before = with_bonds (begun (shape_of before) (set_of before) (count_of before)) (listed_bonds before)
 
 abbrev pub draft_in : Section → List (List ℕ) → Draft → List ℕ → Draft
-draft_in Frame before draft line = with_line draft (line_positions draft.set (frame_line (without_return line)))
+draft_in Frame before draft line = with_line draft (line_positions draft.world.set (frame_line (without_return line)))
 draft_in Head before draft line = begun_frame before
 draft_in Vectors before draft line = begun_frame before
 draft_in Bonds before draft line = begun_frame before

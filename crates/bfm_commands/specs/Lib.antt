@@ -1,6 +1,9 @@
+pub mod Capped
 pub mod Causes
+pub mod Commands
 pub mod Entries
 pub mod Faults
+pub mod Forms
 pub mod History
 pub mod Lines
 pub mod Numbers

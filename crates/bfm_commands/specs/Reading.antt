@@ -1,6 +1,7 @@
 -- What a reader of a file keeps of the lines that it has taken, which come newest first.
-use Rattle.std.specs.Prelude.{◌≡◌, ◌≢◌, ℕ, ◌+◌, ◌*◌, ◌^◌, ◌<◌, ◌≤◌, List, [], ◌∷◌, All, length, slice_index, Option, None, Some}
+use Rattle.std.specs.Prelude.{◌≡◌, ◌≢◌, ℕ, ◌+◌, ◌*◌, ◌<◌, ◌≤◌, List, [], ◌∷◌, All, length, slice_index, Option, None, Some}
 use Rattle.bfm_base.specs.declared.cause.Cause.{Cause}
+use Rattle.bfm_base.specs.declared.limits.TheConstants.{MOST_SITES, GREATEST_MCS}
 use Rattle.bfm_base.specs.declared.cause.ReadStop.{ReadStop}
 use Rattle.bfm_base.specs.declared.cause.ReadStop.TheVariants as stops
 use Rattle.bfm_world.specs.Draft.{Draft}
@@ -16,28 +17,28 @@ use Rattle.bfm_commands.specs.declared.header.Header.{Header}
 use Rattle.bfm_commands.specs.declared.fault.LineFault.{LineFault}
 use Rattle.bfm_commands.specs.declared.fault.LineFault.TheVariants as faults
 
--- the value of the command at a place, which is within its range
-pub record IsValue (lines : List (List ℕ)) (place value : ℕ) : Type 0 where
-  pub is : value_at lines place ≡ value
-  pub least : (setting_at place).least ≤ value
-  pub greatest : value ≤ (setting_at place).greatest
+-- the value of a command, counted from 0, which is within its range
+pub record IsValue (lines : List (List ℕ)) (index value : ℕ) : Type 0 where
+  pub is : value_at lines index ≡ value
+  pub least : (setting_at index).least ≤ value
+  pub greatest : value ≤ (setting_at index).greatest
 
 -- a header is what these lines give, none of which begins the frame
 pub record IsHeader (header : Header) (lines : List (List ℕ)) : Type 0 where
   pub count : header.lines ≡ length lines
   pub section : header.section ≡ section_of lines
   pub before_frame : rank (section_of lines) < 3
-  pub values : (place : ℕ) → place < 7 → place < length lines → IsValue lines place (slice_index header.values place)
-  pub sites : 3 < length lines → slice_index header.values 1 * slice_index header.values 2 * slice_index header.values 3 ≤ 2 ^ 24
+  pub values : (index : ℕ) → index < 7 → index < length lines → IsValue lines index (slice_index header.values index)
+  pub sites : 3 < length lines → slice_index header.values 1 * slice_index header.values 2 * slice_index header.values 3 ≤ MOST_SITES
   pub set : header.set ≡ set_of lines
   pub pairs : header.pairs.items ≡ pairs_of lines
 
 -- All values of a header are there and in their ranges, and each pair has two monomers.
 pub record IsReady (header : Header) : Type 0 where
   pub lines : 7 ≤ header.lines
-  pub least : (place : ℕ) → place < 7 → (setting_at place).least ≤ slice_index header.values place
-  pub greatest : (place : ℕ) → place < 7 → slice_index header.values place ≤ (setting_at place).greatest
-  pub sites : slice_index header.values 1 * slice_index header.values 2 * slice_index header.values 3 ≤ 2 ^ 24
+  pub least : (index : ℕ) → index < 7 → (setting_at index).least ≤ slice_index header.values index
+  pub greatest : (index : ℕ) → index < 7 → slice_index header.values index ≤ (setting_at index).greatest
+  pub sites : slice_index header.values 1 * slice_index header.values 2 * slice_index header.values 3 ≤ MOST_SITES
   pub pairs : All (λ pair. pair.0 ≢ pair.1) header.pairs.items
 
 -- a line begins the frame of this time, and is right where the header as a whole is
@@ -45,7 +46,7 @@ pub record Begins (lines : List (List ℕ)) (line : List ℕ) (mcs : ℕ) : Type
   pub cause : cause_of lines line ≡ begin_cause lines
   pub section : rank (section_of (line ∷ lines)) ≡ 3
   pub time : mcs_of (line ∷ lines) ≡ mcs
-  pub limit : mcs ≤ 2 ^ 40
+  pub limit : mcs ≤ GREATEST_MCS
   pub values : 7 ≤ length lines
 
 -- why a line was not taken: its cause, or want of memory

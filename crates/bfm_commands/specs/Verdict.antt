@@ -16,8 +16,8 @@ newest_first before [] = before
 newest_first before (line ∷ lines) = newest_first (line ∷ before) lines
 
 abbrev pub refused_at : ℕ → Option Cause → Option Refused → Option Refused
-refused_at place None later = later
-refused_at place (Some cause) later = Some (record { line = place + 1; cause = cause })
+refused_at before None later = later
+refused_at before (Some cause) later = Some (record { line = before + 1; cause = cause })
 
 -- the first wrong line, where lines stand before these
 abbrev pub first_wrong : List (List ℕ) → List (List ℕ) → Option Refused
@@ -31,9 +31,9 @@ bytes_in (line ∷ before) = bytes_in before + length line + 1
 
 -- what an accepted file of so many bytes gives
 abbrev pub loaded_of : ℕ → List (List ℕ) → Loaded
-loaded_of total lines = let draft = draft_of lines in record {
-  world = record { shape = draft.shape; set = draft.set; positions = draft.positions; bonds = draft.bonds };
-  first = draft.positions;
+loaded_of total lines = let world = (draft_of lines).world in record {
+  world = world;
+  first = world.positions;
   mcs = mcs_of lines;
   frames = 1;
   kept = bytes_in lines;
@@ -45,7 +45,7 @@ loaded_of total lines = let draft = draft_of lines in record {
 abbrev pub whole_or : ℕ → List (List ℕ) → Option Refused → Result Loaded Refused
 whole_or total lines (Some refused) = Err refused
 whole_or total lines None =
-    if (rank (section_of lines) == 3) && (length (draft_of lines).positions == (draft_of lines).count)
+    if (rank (section_of lines) == 3) && (length (draft_of lines).world.positions == (draft_of lines).count)
     then Ok (loaded_of total lines) else Err (record { line = length lines + 1; cause = NoFrame })
 
 -- the verdict on the bytes of a file

@@ -1,10 +1,11 @@
-ghost use Rattle.std.specs.Prelude.{◌≡◌, ◌≢◌, ◌^◌, ◌<◌, ◌≤◌, IfOk, Ok, Err, MatchResult};
+ghost use Rattle.std.specs.Prelude.{◌≡◌, ◌≢◌, ◌<◌, ◌≤◌, IfOk, Ok, Err, MatchResult};
 ghost use Rattle.bfm_base.specs.Place.{extent_of};
 ghost use Rattle.bfm_lexer.specs.Numbers.{number_of};
 ghost use Rattle.bfm_commands.specs.Entries.{place_of, sized_number, sized_place, sized_monomer, vector_entry, bond_entry, up_to_space, frame_line};
 ghost use Rattle.bfm_commands.specs.Numbers.{split_once};
 
 use crate::numbers::split_once;
+use bfm_base::limits::{GREATEST_NUMBER, MOST_MONOMERS, START_REACH};
 use bfm_base::{Cause, P3};
 use bfm_lexer::number;
 
@@ -34,7 +35,7 @@ fn sized_place(x: &[u8], y: &[u8], z: &[u8]) -> Result<Option<P3>, Cause>
 /// 2^62 in absolute value `OutOfLimit`.
 pub(crate) fn vector_entry(line: &[u8]) -> Result<(P3, i64), Cause>
     ensures value { result ≡ vector_entry line.now }
-    ensures reach { IfOk result (λ e. extent_of e.0 ≤ 2 ^ 62) }
+    ensures reach { IfOk result (λ e. extent_of e.0 ≤ GREATEST_NUMBER) }
 {
     let (x, rest) = split_once(b' ', line).ok_or(Cause::Unbuilt)?;
     let (y, rest) = split_once(b' ', rest).ok_or(Cause::Unbuilt)?;
@@ -45,15 +46,12 @@ pub(crate) fn vector_entry(line: &[u8]) -> Result<(P3, i64), Cause>
     }
 }
 
-/// The greatest number of a monomer in a file.
-const GREATEST_MONOMER: i64 = 262_144;
-
 // A monomer, counted from 0, or `None` where its number is not 1 to 2^18.
 fn sized_monomer(text: &[u8]) -> Result<Option<u32>, Cause>
     ensures { result ≡ sized_monomer (number_of text.now) }
 {
     match sized_number(text)? {
-        Some(n) if 1 <= n && n <= GREATEST_MONOMER => Ok(Some(n as u32 - 1)),
+        Some(n) if 1 <= n && n <= i64::from(MOST_MONOMERS) => Ok(Some(n as u32 - 1)),
         _ => Ok(None),
     }
 }
@@ -62,7 +60,7 @@ fn sized_monomer(text: &[u8]) -> Result<Option<u32>, Cause>
 /// not 1 to 2^18 `OutOfLimit`, twice the same `BadMonomer`.
 pub(crate) fn bond_entry(line: &[u8]) -> Result<(u32, u32), Cause>
     ensures value { result ≡ bond_entry line.now }
-    ensures range { IfOk result (λ e. (e.0 < 2 ^ 18) × (e.1 < 2 ^ 18)) }
+    ensures range { IfOk result (λ e. (e.0 < MOST_MONOMERS) × (e.1 < MOST_MONOMERS)) }
     ensures other { IfOk result (λ e. e.0 ≢ e.1) }
 {
     let (i, j) = split_once(b' ', line).ok_or(Cause::Unbuilt)?;
@@ -72,9 +70,6 @@ pub(crate) fn bond_entry(line: &[u8]) -> Result<(u32, u32), Cause>
         _ => Err(Cause::OutOfLimit),
     }
 }
-
-/// The greatest absolute value of a coordinate in a file, in lattice units.
-const GREATEST_COORDINATE: u64 = 17_592_186_044_416;
 
 // What stands before the first space and behind it.
 fn up_to_space(text: &[u8]) -> (&[u8], &[u8])
@@ -91,13 +86,13 @@ fn up_to_space(text: &[u8]) -> (&[u8], &[u8])
 /// next ones. Another form is `Unbuilt`, a coordinate above 2^44 in absolute value `OutOfLimit`.
 pub(crate) fn frame_line(line: &[u8]) -> Result<(P3, &[u8]), Cause>
     ensures value { MatchResult result (λ e. frame_line line.now ≡ Ok (e.0, e.1.now)) (λ cause. frame_line line.now ≡ Err cause) }
-    ensures reach { IfOk result (λ e. extent_of e.0 ≤ 2 ^ 44) }
+    ensures reach { IfOk result (λ e. extent_of e.0 ≤ START_REACH) }
 {
     let (x, rest) = split_once(b' ', line).ok_or(Cause::Unbuilt)?;
     let (y, rest) = split_once(b' ', rest).ok_or(Cause::Unbuilt)?;
     let (z, ids) = up_to_space(rest);
     match sized_place(x, y, z)? {
-        Some(position) if position.extent() <= GREATEST_COORDINATE => Ok((position, ids)),
+        Some(position) if position.extent() <= START_REACH => Ok((position, ids)),
         _ => Err(Cause::OutOfLimit),
     }
 }

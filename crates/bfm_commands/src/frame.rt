@@ -1,16 +1,17 @@
-ghost use Rattle.std.specs.Prelude.{◌≡◌, ℕ, ◌+◌, ◌-◌, ◌^◌, ◌<◌, ◌≤◌, true, false, List, ◌∷◌, ◌++◌, length, take, drop, is_some, None, Some, IfErr, OnOk};
+ghost use Rattle.std.specs.Prelude.{◌≡◌, ℕ, ◌+◌, ◌-◌, ◌<◌, ◌≤◌, true, false, List, ◌∷◌, ◌++◌, length, take, drop, is_some, None, Some, IfErr, OnOk};
 ghost use Rattle.std.specs.List.{list_all};
 ghost use Rattle.bfm_base.specs.Place.{extent_of};
 ghost use Rattle.bond_set.specs.BondSet.{vector_of};
-ghost use Rattle.bfm_world.specs.Configuration.{reach_of, greatest_reach, may_bond, position_at, is_within_walls};
-ghost use Rattle.bfm_world.specs.Draft.{IsSound};
+ghost use Rattle.bfm_geom.specs.Walls.{is_within_walls};
+ghost use Rattle.bfm_world.specs.Configuration.{reach_of, IsSound, may_bond, position_at};
+ghost use Rattle.bfm_world.specs.Draft.{with_positions, with_bonds};
 ghost use Rattle.bfm_commands.specs.Causes.{cause_of, placing_cause, positions_cause, is_overfull, some_fails, is_apart, is_bonded_well};
 ghost use Rattle.bfm_commands.specs.History.{string_positions, with_line, with_pairs, chain};
 
 use crate::entries::frame_line;
 use crate::fault::LineFault;
-use crate::header::LONGEST_LINE;
 use crate::lines::without_return;
+use bfm_base::limits::{LONGEST_LINE, MOST_MONOMERS, START_REACH, WORLD_REACH};
 use bfm_base::{Cause, P3};
 use bfm_geom::shifted;
 use bfm_world::{WorldBuilder, is_clear, is_within_walls, keeps_bonds};
@@ -30,12 +31,12 @@ impl FrameLines {
 
     /// Takes the next line.
     pub fn take(&mut self, line: &[u8]) -> Result<(), LineFault>
-        requires list { self.old.positions.items ≡ self.old.builder.positions }
-        requires reach { reach_of self.old.positions.items ≤ greatest_reach }
+        requires list { self.old.positions.items ≡ self.old.builder.world.positions }
+        requires reach { reach_of self.old.positions.items ≤ WORLD_REACH }
         ensures taken { OnOk result ((lines : List (List ℕ)) → IsFrame self.old.builder lines
             → (cause_of lines line.now ≡ None) × IsFrame self.new.builder (line.now ∷ lines)) }
-        ensures list { OnOk result (self.new.positions.items ≡ self.new.builder.positions) }
-        ensures reach { OnOk result (reach_of self.new.positions.items ≤ greatest_reach) }
+        ensures list { OnOk result (self.new.positions.items ≡ self.new.builder.world.positions) }
+        ensures reach { OnOk result (reach_of self.new.positions.items ≤ WORLD_REACH) }
         ensures refused { IfErr result (λ fault. (lines : List (List ℕ)) → IsFrame self.old.builder lines → IsFault fault (cause_of lines line.now)) }
     {
         if line.len() > LONGEST_LINE {
@@ -69,12 +70,12 @@ fn are_known(set: &BondSet, identifiers: &[u8]) -> bool
 /// Places the monomers from one on where the list of positions says, and joins successive ones.
 fn place_line(builder: &mut WorldBuilder, positions: &[P3], begun: usize) -> Result<(), Cause>
     requires begun { begun < length positions.now }
-    requires placed { builder.old.positions ≡ take begun positions.now }
+    requires placed { builder.old.world.positions ≡ take begun positions.now }
     requires room { length positions.now ≤ builder.old.count }
-    requires reach { reach_of positions.now ≤ greatest_reach }
-    requires sound { IsSound builder.old }
+    requires reach { reach_of positions.now ≤ WORLD_REACH }
+    requires sound { IsSound builder.old.count builder.old.world }
     requires steps { (k : ℕ) → begun ≤ k → k + 1 < length positions.now
-        → may_bond builder.old.shape builder.old.set (position_at positions.now k) (position_at positions.now (k + 1)) ≡ true }
+        → may_bond builder.old.world.shape builder.old.world.set (position_at positions.now k) (position_at positions.now (k + 1)) ≡ true }
     ensures ok { OnOk result ((builder.new ≡ with_line builder.old (drop begun positions.now)) × (positions_cause builder.old (drop begun positions.now) ≡ None)) }
     ensures err { IfErr result (λ cause. positions_cause builder.old (drop begun positions.now) ≡ Some cause) }
 {
@@ -92,8 +93,8 @@ fn add_positions(
     identifiers: &[u8],
 ) -> Result<(), AllocError>
     requires known { list_all (λ id. is_some (vector_of set.now id)) identifiers.now ≡ true }
-    requires near { extent_of first ≤ 2 ^ 44 }
-    requires few { length identifiers.now < 2 ^ 18 }
+    requires near { extent_of first ≤ START_REACH }
+    requires few { length identifiers.now < MOST_MONOMERS }
     ensures { OnOk result (positions.new.items ≡ positions.old.items ++ string_positions set.now (first, identifiers.now)) }
 {
     let mut place = first;
@@ -108,15 +109,15 @@ fn add_positions(
 /// Places the monomers that have no position yet, and answers whether all of them may stand where
 /// the list of positions says.
 fn place_all(builder: &mut WorldBuilder, positions: &[P3]) -> bool
-    requires begun { builder.old.positions ≡ take (length builder.old.positions) positions.now }
+    requires begun { builder.old.world.positions ≡ take (length builder.old.world.positions) positions.now }
     requires room { length positions.now ≤ builder.old.count }
-    requires reach { reach_of positions.now ≤ greatest_reach }
-    requires sound { IsSound builder.old }
-    ensures placed { result ≡ true → (builder.new ≡ record builder.old { positions = positions.now })
-        × (placing_cause builder.old (drop (length builder.old.positions) positions.now) ≡ None) }
-    ensures refused { result ≡ false → (builder.old ≡ record builder.new { positions = builder.old.positions })
-        × (is_some (placing_cause builder.old (drop (length builder.old.positions) positions.now)) ≡ true) }
-    ensures sound { IsSound builder.new }
+    requires reach { reach_of positions.now ≤ WORLD_REACH }
+    requires sound { IsSound builder.old.count builder.old.world }
+    ensures placed { result ≡ true → (builder.new ≡ with_positions builder.old positions.now)
+        × (placing_cause builder.old.world (drop (length builder.old.world.positions) positions.now) ≡ None) }
+    ensures refused { result ≡ false → (builder.old ≡ with_positions builder.new builder.old.world.positions)
+        × (is_some (placing_cause builder.old.world (drop (length builder.old.world.positions) positions.now)) ≡ true) }
+    ensures sound { IsSound builder.new.count builder.new.world }
 {
     for k in builder.placed()..positions.len() {
         if builder.place(positions[k]).is_err() {
@@ -130,9 +131,9 @@ fn place_all(builder: &mut WorldBuilder, positions: &[P3]) -> bool
 fn least_cause(builder: &WorldBuilder, positions: &[P3], begun: usize) -> Option<Cause>
     requires begun { begun ≤ length positions.now }
     requires room { length positions.now ≤ builder.now.count }
-    requires few { builder.now.count ≤ 2 ^ 18 }
-    requires reach { reach_of positions.now ≤ greatest_reach }
-    ensures { result ≡ placing_cause (record builder.now { positions = take begun positions.now }) (drop begun positions.now) }
+    requires few { builder.now.count ≤ MOST_MONOMERS }
+    requires reach { reach_of positions.now ≤ WORLD_REACH }
+    ensures { result ≡ placing_cause (with_positions builder.now (take begun positions.now)).world (drop begun positions.now) }
 {
     if some_outside(builder, positions, begun) {
         return Some(Cause::Outside);
@@ -149,7 +150,7 @@ fn least_cause(builder: &WorldBuilder, positions: &[P3], begun: usize) -> Option
 /// Whether one of the monomers from one on is beyond a wall.
 fn some_outside(builder: &WorldBuilder, positions: &[P3], begun: usize) -> bool
     requires { begun ≤ length positions.now }
-    ensures { result ≡ some_fails (λ before p. is_within_walls builder.now.shape p) (take begun positions.now) (drop begun positions.now) }
+    ensures { result ≡ some_fails (λ before p. is_within_walls builder.now.world.shape p) (take begun positions.now) (drop begun positions.now) }
 {
     let shape = builder.shape();
     for k in begun..positions.len() {
@@ -163,8 +164,8 @@ fn some_outside(builder: &WorldBuilder, positions: &[P3], begun: usize) -> bool
 /// Whether one of the monomers from one on overlaps one with a lower number.
 fn some_overlaps(builder: &WorldBuilder, positions: &[P3], begun: usize) -> bool
     requires begun { begun ≤ length positions.now }
-    requires reach { reach_of positions.now ≤ greatest_reach }
-    ensures { result ≡ some_fails (is_apart builder.now) (take begun positions.now) (drop begun positions.now) }
+    requires reach { reach_of positions.now ≤ WORLD_REACH }
+    ensures { result ≡ some_fails (is_apart builder.now.world) (take begun positions.now) (drop begun positions.now) }
 {
     let shape = builder.shape();
     for k in begun..positions.len() {
@@ -180,9 +181,9 @@ fn some_overlaps(builder: &WorldBuilder, positions: &[P3], begun: usize) -> bool
 fn some_bonded_badly(builder: &WorldBuilder, positions: &[P3], begun: usize) -> bool
     requires begun { begun ≤ length positions.now }
     requires room { length positions.now ≤ builder.now.count }
-    requires few { builder.now.count ≤ 2 ^ 18 }
-    requires reach { reach_of positions.now ≤ greatest_reach }
-    ensures { result ≡ some_fails (is_bonded_well builder.now) (take begun positions.now) (drop begun positions.now) }
+    requires few { builder.now.count ≤ MOST_MONOMERS }
+    requires reach { reach_of positions.now ≤ WORLD_REACH }
+    ensures { result ≡ some_fails (is_bonded_well builder.now.world) (take begun positions.now) (drop begun positions.now) }
 {
     for k in begun..positions.len() {
         if !is_bonded_well(builder, &positions[..k], positions[k]) {
@@ -195,10 +196,10 @@ fn some_bonded_badly(builder: &WorldBuilder, positions: &[P3], begun: usize) -> 
 /// Whether the monomer behind these positions may stand at a place as far as its bonds to them go.
 fn is_bonded_well(builder: &WorldBuilder, before: &[P3], p: P3) -> bool
     requires room { length before.now < builder.now.count }
-    requires few { builder.now.count ≤ 2 ^ 18 }
-    requires reach { reach_of before.now ≤ greatest_reach }
-    requires place { extent_of p ≤ greatest_reach }
-    ensures { result ≡ is_bonded_well builder.now before.now p }
+    requires few { builder.now.count ≤ MOST_MONOMERS }
+    requires reach { reach_of before.now ≤ WORLD_REACH }
+    requires place { extent_of p ≤ WORLD_REACH }
+    ensures { result ≡ is_bonded_well builder.now.world before.now p }
 {
     let neighbours = builder.neighbours(before.len() as u32);
     keeps_bonds(&builder.shape(), builder.set(), before, neighbours, p)
@@ -206,13 +207,13 @@ fn is_bonded_well(builder: &WorldBuilder, before: &[P3], p: P3) -> bool
 
 /// Joins successive monomers from one on, all of which are placed.
 fn join_successive(builder: &mut WorldBuilder, first: usize, count: usize) -> Result<(), Cause>
-    requires placed { first + count < length builder.old.positions }
-    requires sound { IsSound builder.old }
+    requires placed { first + count < length builder.old.world.positions }
+    requires sound { IsSound builder.old.count builder.old.world }
     requires steps { (k : ℕ) → first ≤ k → k < first + count
-        → may_bond builder.old.shape builder.old.set (position_at builder.old.positions k) (position_at builder.old.positions (k + 1)) ≡ true }
-    ensures ok { OnOk result ((builder.new ≡ record builder.old { bonds = with_pairs builder.old.bonds (chain first count) })
-        × (is_overfull (with_pairs builder.old.bonds (chain first count)) ≡ false)) }
-    ensures err { IfErr result (λ cause. (cause ≡ Cause.TooManyBonds) × (is_overfull (with_pairs builder.old.bonds (chain first count)) ≡ true)) }
+        → may_bond builder.old.world.shape builder.old.world.set (position_at builder.old.world.positions k) (position_at builder.old.world.positions (k + 1)) ≡ true }
+    ensures ok { OnOk result ((builder.new ≡ with_bonds builder.old (with_pairs builder.old.world.bonds (chain first count)))
+        × (is_overfull (with_pairs builder.old.world.bonds (chain first count)) ≡ false)) }
+    ensures err { IfErr result (λ cause. (cause ≡ Cause.TooManyBonds) × (is_overfull (with_pairs builder.old.world.bonds (chain first count)) ≡ true)) }
 {
     for k in first..first + count {
         builder.join(k as u32, k as u32 + 1)?;

@@ -1,7 +1,8 @@
-ghost use Rattle.std.specs.Prelude.{◌≡◌, ◌≢◌, ℕ, ◌*◌, ◌^◌, ◌<◌, ◌≤◌, true, false, ◌==◌, List, [], ◌∷◌, length, slice_index, All, None, Some, MatchOption, IfOk, IfErr, OnOk, OnErr};
+ghost use Rattle.std.specs.Prelude.{◌≡◌, ◌≢◌, ℕ, ◌*◌, ◌<◌, ◌≤◌, true, false, ◌==◌, List, [], ◌∷◌, length, slice_index, All, None, Some, MatchOption, IfOk, IfErr, OnOk, OnErr};
 ghost use Rattle.std.specs.List.{list_any};
 ghost use Rattle.bfm_base.specs.declared.cause.Cause.TheVariants.{TooManyBonds};
 ghost use Rattle.bfm_lexer.specs.Lines.{without_return};
+ghost use Rattle.bfm_world.specs.Draft.{with_bonds};
 ghost use Rattle.bfm_commands.specs.Causes.{cause_of, value_cause, fitting, opening_cause, entry_cause, vector_cause, bond_cause, rank, begin_cause, is_beyond, is_overfull};
 ghost use Rattle.bfm_commands.specs.History.{opened_by, section_of, set_of, setting_at, value_at, begun_frame, with_pairs};
 ghost use Rattle.bfm_commands.specs.Numbers.{given};
@@ -13,16 +14,13 @@ use crate::fault::LineFault;
 use crate::lines::without_return;
 use crate::numbers::given;
 use crate::section::Section;
+use bfm_base::limits::{
+    GREATEST_MCS, GREATEST_SIDE, LEAST_SIDE, LONGEST_LINE, MOST_MONOMERS, MOST_SITES,
+};
 use bfm_base::{Cause, Shape};
 use bfm_world::WorldBuilder;
 use bond_set::BondSet;
 use std::alloc::Global;
-
-/// The most bytes that a line may have, a carriage return counted and the newline not.
-pub(crate) const LONGEST_LINE: usize = 524_287;
-
-/// The greatest number of sites of a box.
-const GREATEST_SITES: u64 = 16_777_216;
 
 /// What the lines before the frame have given so far.
 #[derive(Drop)]
@@ -65,7 +63,7 @@ impl Header {
     /// Takes the next line. Answers the time of the frame, in sweeps, where the line begins it; the
     /// header is then as it was.
     pub fn take(&mut self, line: &[u8]) -> Result<Option<u64>, LineFault>
-        requires { self.old.lines < 2 ^ 32 }
+        requires { self.old.lines < u64.MAX }
         ensures taken { IfOk result (λ time. MatchOption time
             ((lines : List (List ℕ)) → IsHeader self.old lines → (cause_of lines line.now ≡ None) × IsHeader self.new (line.now ∷ lines))
             (λ mcs. (lines : List (List ℕ)) → IsHeader self.old lines → Begins lines line.now mcs × IsHeader self.new lines)) }
@@ -120,7 +118,7 @@ impl Header {
         let value = command_value(self.lines, text)?;
         // Where the number of sites counts, the sides are at most 512, so that no product is cut.
         let area = self.values[1].saturating_mul(self.values[2]);
-        if self.lines == 3 && area.saturating_mul(value) > GREATEST_SITES {
+        if self.lines == 3 && area.saturating_mul(value) > u64::from(MOST_SITES) {
             return None;
         }
         Some(value)
@@ -129,7 +127,7 @@ impl Header {
     /// Begins a section, which has to come after the present one.
     fn begin_section(&mut self, section: Section) -> Result<(), Cause>
         requires behind_values { 7 ≤ self.old.lines }
-        requires room { self.old.lines < 2 ^ 32 }
+        requires room { self.old.lines < u64.MAX }
         requires before_frame { rank section < 3 }
         ensures begun { IfOk result (λ _. (lines : List (List ℕ)) (line : List ℕ) → IsHeader self.old lines → opened_by (without_return line) ≡ Some section
             → (opening_cause lines section ≡ None) × IsHeader self.new (line ∷ lines)) }
@@ -146,7 +144,7 @@ impl Header {
     /// Takes an entry of the present section.
     fn take_entry(&mut self, text: &[u8]) -> Result<(), LineFault>
         requires behind_values { 7 ≤ self.old.lines }
-        requires room { self.old.lines < 2 ^ 32 }
+        requires room { self.old.lines < u64.MAX }
         ensures taken { IfOk result (λ _. (lines : List (List ℕ)) (line : List ℕ) → IsHeader self.old lines → without_return line ≡ text.now → opened_by text.now ≡ None
             → (entry_cause lines (section_of lines) text.now ≡ None) × IsHeader self.new (line ∷ lines)) }
         ensures refused { IfErr result (λ fault. (lines : List (List ℕ)) → IsHeader self.old lines → IsFault fault (entry_cause lines (section_of lines) text.now)) }
@@ -162,7 +160,7 @@ impl Header {
     fn take_vector(&mut self, text: &[u8]) -> Result<(), LineFault>
         requires section { self.old.section ≡ Vectors }
         requires behind_values { 7 ≤ self.old.lines }
-        requires room { self.old.lines < 2 ^ 32 }
+        requires room { self.old.lines < u64.MAX }
         ensures taken { IfOk result (λ _. (lines : List (List ℕ)) (line : List ℕ) → IsHeader self.old lines → without_return line ≡ text.now → opened_by text.now ≡ None
             → (vector_cause (set_of lines) text.now ≡ None) × IsHeader self.new (line ∷ lines)) }
         ensures refused { IfErr result (λ fault. (lines : List (List ℕ)) → IsHeader self.old lines → IsFault fault (vector_cause (set_of lines) text.now)) }
@@ -177,7 +175,7 @@ impl Header {
     fn take_pair(&mut self, text: &[u8]) -> Result<(), LineFault>
         requires section { self.old.section ≡ Bonds }
         requires behind_values { 7 ≤ self.old.lines }
-        requires room { self.old.lines < 2 ^ 32 }
+        requires room { self.old.lines < u64.MAX }
         ensures taken { IfOk result (λ _. (lines : List (List ℕ)) (line : List ℕ) → IsHeader self.old lines → without_return line ≡ text.now → opened_by text.now ≡ None
             → (bond_cause text.now ≡ None) × IsHeader self.new (line ∷ lines)) }
         ensures refused { IfErr result (λ fault. IsFault fault (bond_cause text.now)) }
@@ -191,16 +189,18 @@ impl Header {
     }
 }
 
-/// The number that a line gives the command at a place, 0 to 6.
-fn command_value(place: u64, text: &[u8]) -> Option<u64>
-    requires { place < 7 }
-    ensures { result ≡ given (setting_at place) text.now }
+/// The number that a line gives a command, which are counted 0 to 6.
+fn command_value(index: u64, text: &[u8]) -> Option<u64>
+    requires { index < 7 }
+    ensures { result ≡ given (setting_at index) text.now }
 {
-    match place {
-        0 => given(b"!number_of_monomers", 1, 262_144, text),
-        1 => given(b"!box_x", 8, 512, text),
-        2 => given(b"!box_y", 8, 512, text),
-        3 => given(b"!box_z", 8, 512, text),
+    let least = u64::from(LEAST_SIDE);
+    let greatest = u64::from(GREATEST_SIDE);
+    match index {
+        0 => given(b"!number_of_monomers", 1, u64::from(MOST_MONOMERS), text),
+        1 => given(b"!box_x", least, greatest, text),
+        2 => given(b"!box_y", least, greatest, text),
+        3 => given(b"!box_z", least, greatest, text),
         4 => given(b"!periodic_x", 0, 1, text),
         5 => given(b"!periodic_y", 0, 1, text),
         _ => given(b"!periodic_z", 0, 1, text),
@@ -217,7 +217,7 @@ fn opened_by(text: &[u8]) -> Option<Opening>
     if text == b"!bonds".as_slice() {
         return Some(Opening::Bonds);
     }
-    let mcs = given(b"!mcs", 0, 1_099_511_627_776, text)?;
+    let mcs = given(b"!mcs", 0, GREATEST_MCS, text)?;
     Some(Opening::Frame(mcs))
 }
 
@@ -228,7 +228,7 @@ fn opened_by(text: &[u8]) -> Option<Opening>
 pub(crate) fn begin(alloc: Global, header: Header) -> Result<WorldBuilder, LineFault>
     requires { IsReady header }
     ensures begun { IfOk result (λ builder. (lines : List (List ℕ)) → IsHeader header lines → (begin_cause lines ≡ None) × (builder ≡ begun_frame lines)) }
-    ensures unplaced { IfOk result (λ builder. builder.positions ≡ []) }
+    ensures unplaced { IfOk result (λ builder. builder.world.positions ≡ []) }
     ensures refused { IfErr result (λ fault. (lines : List (List ℕ)) → IsHeader header lines → IsFault fault (begin_cause lines)) }
 {
     let Header {
@@ -251,9 +251,9 @@ pub(crate) fn begin(alloc: Global, header: Header) -> Result<WorldBuilder, LineF
 
 /// The box that the values of the commands give.
 fn shape_of(values: &[u64; 7]) -> Shape
-    requires x { slice_index values.now 1 ≤ 512 }
-    requires y { slice_index values.now 2 ≤ 512 }
-    requires z { slice_index values.now 3 ≤ 512 }
+    requires x { slice_index values.now 1 ≤ GREATEST_SIDE }
+    requires y { slice_index values.now 2 ≤ GREATEST_SIDE }
+    requires z { slice_index values.now 3 ≤ GREATEST_SIDE }
     ensures { result ≡ record {
       sides = slice_index values.now 1 ∷ slice_index values.now 2 ∷ slice_index values.now 3 ∷ [];
       periodic = (slice_index values.now 4 == 1) ∷ (slice_index values.now 5 == 1) ∷ (slice_index values.now 6 == 1) ∷ [];
@@ -282,13 +282,13 @@ fn names_missing(pairs: &[(u32, u32)], count: u32) -> bool
 fn join_all(builder: &mut WorldBuilder, pairs: &[(u32, u32)]) -> Result<(), Cause>
     requires present { list_any (is_beyond builder.old.count) pairs.now ≡ false }
     requires differ { All (λ pair. pair.0 ≢ pair.1) pairs.now }
-    requires unplaced { builder.old.positions ≡ [] }
-    requires rows { length builder.old.bonds ≡ builder.old.count }
-    requires room { is_overfull builder.old.bonds ≡ false }
-    ensures joined { OnOk result (builder.new ≡ record builder.old { bonds = with_pairs builder.old.bonds pairs.now }) }
-    ensures full { OnOk result (is_overfull (with_pairs builder.old.bonds pairs.now) ≡ false) }
+    requires unplaced { builder.old.world.positions ≡ [] }
+    requires rows { length builder.old.world.bonds ≡ builder.old.count }
+    requires room { is_overfull builder.old.world.bonds ≡ false }
+    ensures joined { OnOk result (builder.new ≡ with_bonds builder.old (with_pairs builder.old.world.bonds pairs.now)) }
+    ensures full { OnOk result (is_overfull (with_pairs builder.old.world.bonds pairs.now) ≡ false) }
     ensures cause { IfErr result (λ cause. cause ≡ TooManyBonds) }
-    ensures overfull { OnErr result (is_overfull (with_pairs builder.old.bonds pairs.now) ≡ true) }
+    ensures overfull { OnErr result (is_overfull (with_pairs builder.old.world.bonds pairs.now) ≡ true) }
 {
     for (i, j) in pairs {
         builder.join(*i, *j)?;

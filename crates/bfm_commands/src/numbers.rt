@@ -31,8 +31,8 @@ pub fn split_once(byte: u8, text: &[u8]) -> Option<(&[u8], &[u8])>
     ensures { MatchOption result (split_once byte text.now ≡ None)
         (λ parts. split_once byte text.now ≡ Some (parts.0.now, parts.1.now)) }
 {
-    let place = memchr(byte, text)?;
-    Some((&text[..place], &text[place + 1..]))
+    let index = memchr(byte, text)?;
+    Some((&text[..index], &text[index + 1..]))
 }
 
 /// The number in a text of the form `name=number`, where it is in the range.

@@ -15,7 +15,7 @@ pub enum Section {
 }
 
 impl Section {
-    /// The place of the section among the sections, which come in this order.
+    /// How many sections come before it in a file.
     pub fn rank(self) -> u8
         ensures { result ≡ rank self }
     {

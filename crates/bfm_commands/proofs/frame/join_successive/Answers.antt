@@ -18,7 +18,7 @@ loop-k-preserved c =
     let k = c.loop-k.k in
     let answer : join_answer c.loop-k.builder k (k + 1) ≡ Ok c.in_ok-join.field-0 = sym c.join.ensures.answer ∙ c.in_ok-join.was in
     JoinedSoFar-more c.args.builder.now c.loop-k.builder c.args.first c.args.count k c.loop-k.invariant (omega arith) c.requires.placed (c.requires.steps k (omega arith) (omega arith)) c.join.new.self
-    c.in_ok-join.field-0 answer (λ h. c.join.ensures.joined (c.join.ensures.answer ∙ h)) (λ h. c.join.ensures.same (λ q. h (sym c.join.ensures.answer ∙ q))) c.join.ensures.sound
+    c.in_ok-join.field-0 answer (λ h. c.join.ensures.exact (c.join.ensures.answer ∙ h)) (λ h. c.join.ensures.same (λ q. h (sym c.join.ensures.answer ∙ q))) c.join.ensures.sound
 
 pub returns-clause-ok : goal.returns-clause-ok
 returns-clause-ok c = JoinedSoFar-all c.args.builder.now c.loop-k.builder c.args.first c.args.count c.loop-k.k c.loop-k.invariant (omega arith)

@@ -1,6 +1,6 @@
 use Rattle.std.proofs.Common.{◌≡◌, ◌∙◌, ap, sym, true, false, is_err, arith, rules, pos, ◌++◌, ◌∷◌, []}
 use Rattle.bfm_world.specs.Configuration.{position_at}
-use Rattle.bfm_world.specs.Draft.{Draft, place_refusal}
+use Rattle.bfm_world.specs.Draft.{Draft, with_positions, place_refusal}
 use Rattle.bfm_world.proofs.ReachLemmas.{extent_at}
 use Rattle.bfm_commands.proofs.FrameLemmas.{answer_ok, answer_err, PlacedSoFar-more, PlacedSoFar-refused, PlacedSoFar-all}
 use Rattle.bfm_commands.proofs.frame.place_all.Goals as goal
@@ -15,17 +15,17 @@ returns-then-is_err-clause-refused c =
     let failed : is_err c.place.result ≡ true = search rules in
     let same : c.place.new.self ≡ c.loop-k.builder = search rules in
     λ _. (
-      sym (ap (λ (d : Draft). record d { positions = start.positions }) (same ∙ c.loop-k.invariant.draft)),
+      sym (ap (λ (d : Draft). with_positions d start.world.positions) (same ∙ c.loop-k.invariant.draft)),
       PlacedSoFar-refused start c.loop-k.builder c.args.positions.now c.loop-k.k c.loop-k.invariant (omega arith) (omega arith)
-          (answer_err (place_refusal c.loop-k.builder (position_at c.args.positions.now c.loop-k.k)) c.place.result c.place.ensures.answer failed) c.requires.begun,
+          (answer_err (place_refusal c.loop-k.builder.world (position_at c.args.positions.now c.loop-k.k)) c.place.result c.place.ensures.answer failed) c.requires.begun,
     )
 
 pub loop-k-preserved : goal.loop-k-preserved
 loop-k-preserved c =
     let went : is_err c.place.result ≡ false = search rules in
-    let later : c.place.new.self ≡ record c.loop-k.builder { positions = c.loop-k.builder.positions ++ position_at c.args.positions.now c.loop-k.k ∷ [] } = search rules in
+    let later : c.place.new.self ≡ with_positions c.loop-k.builder (c.loop-k.builder.world.positions ++ position_at c.args.positions.now c.loop-k.k ∷ []) = search rules in
     PlacedSoFar-more c.args.builder.now c.loop-k.builder c.place.new.self c.args.positions.now c.loop-k.k c.loop-k.invariant (omega arith)
-    (answer_ok (place_refusal c.loop-k.builder (position_at c.args.positions.now c.loop-k.k)) c.place.result c.place.ensures.answer went) later c.place.ensures.sound
+    (answer_ok (place_refusal c.loop-k.builder.world (position_at c.args.positions.now c.loop-k.k)) c.place.result c.place.ensures.answer went) later c.place.ensures.sound
 
 pub returns-clause-placed : goal.returns-clause-placed
 returns-clause-placed c =

@@ -1,20 +1,29 @@
-use Rattle.std.proofs.Common.{◌≡◌, ◌∙◌, ap, subst, length, drop, arith, length-take, Some, sym, None, List}
+use Rattle.std.proofs.Common.{◌≡◌, ◌∙◌, ap, subst, length, take, drop, arith, length-take, Some, sym, None, List}
 use Rattle.std.proofs.lemmas.Result.{MatchResult-weaker, on_ok_weaker}
 use Rattle.bfm_base.specs.declared.place.P3.{P3}
-use Rattle.bfm_world.specs.Draft.{Draft}
+use Rattle.bfm_world.specs.Draft.{Draft, with_positions}
 use Rattle.bfm_commands.specs.Causes.{placing_cause}
-use Rattle.bfm_commands.proofs.FrameLemmas.{LineOutcome-ok, LineOutcome-err}
+use Rattle.bfm_commands.proofs.SuccessiveLemmas.{LineOutcome-placing, LineOutcome-ok, LineOutcome-err}
 use Rattle.bfm_commands.proofs.frame.place_line.Goals as goal
+
+pub returns-then-not-place_all-clause-err : goal.returns-then-not-place_all-clause-err
+returns-then-not-place_all-clause-err c =
+    let draft : Draft = c.args.builder.now in
+    let ps : List P3 = c.args.positions.now in
+    let refused = c.place_all.ensures.refused c.if-not-place_all.true in
+    let same : with_positions c.place_all.new.builder (take c.args.begun ps) ≡ draft = ap (with_positions c.place_all.new.builder) (sym c.requires.placed) ∙ sym refused.0 in
+    LineOutcome-placing draft ps c.args.begun c.requires.sound c.requires.placed c.requires.begun c.requires.room c.requires.steps c.unwrap.result
+    (ap (λ (d : Draft). placing_cause d.world (drop c.args.begun ps)) (sym same) ∙ (sym c.least_cause.ensures ∙ c.unwrap.ensures))
 
 pub returns-clause-ok : goal.returns-clause-ok
 returns-clause-ok c =
     let draft : Draft = c.args.builder.now in
     let ps : List P3 = c.args.positions.now in
     let placed = c.place_all.ensures.placed c.if-not-place_all.false in
-    let count : length draft.positions ≡ c.args.begun = omega (arith, ap length c.requires.placed, length-take c.args.begun ps, c.requires.begun) in
-    let none : placing_cause draft (drop c.args.begun ps) ≡ None = subst (λ n. placing_cause draft (drop n ps) ≡ None) count placed.1 in
+    let count : length draft.world.positions ≡ c.args.begun = omega (arith, ap length c.requires.placed, length-take c.args.begun ps, c.requires.begun) in
+    let none : placing_cause draft.world (drop c.args.begun ps) ≡ None = subst (λ n. placing_cause draft.world (drop n ps) ≡ None) count placed.1 in
     on_ok_weaker c.join_successive.result
-    (λ joined. LineOutcome-ok draft c.place_all.new.builder c.join_successive.new.builder ps c.args.begun c.requires.placed c.requires.begun placed.0 none joined.0 joined.1)
+    (λ joined. LineOutcome-ok draft ps c.args.begun c.requires.sound c.requires.placed c.requires.begun c.requires.room c.requires.steps c.place_all.new.builder placed.0 none c.join_successive.new.builder joined.0 joined.1)
     c.join_successive.ensures.ok
 
 pub returns-clause-err : goal.returns-clause-err
@@ -22,7 +31,7 @@ returns-clause-err c =
     let draft : Draft = c.args.builder.now in
     let ps : List P3 = c.args.positions.now in
     let placed = c.place_all.ensures.placed c.if-not-place_all.false in
-    let count : length draft.positions ≡ c.args.begun = omega (arith, ap length c.requires.placed, length-take c.args.begun ps, c.requires.begun) in
-    let none : placing_cause draft (drop c.args.begun ps) ≡ None = subst (λ n. placing_cause draft (drop n ps) ≡ None) count placed.1 in
+    let count : length draft.world.positions ≡ c.args.begun = omega (arith, ap length c.requires.placed, length-take c.args.begun ps, c.requires.begun) in
+    let none : placing_cause draft.world (drop c.args.begun ps) ≡ None = subst (λ n. placing_cause draft.world (drop n ps) ≡ None) count placed.1 in
     MatchResult-weaker c.join_successive.result c.join_successive.ensures.err (λ _ h. h)
-    (λ cause refused. LineOutcome-err draft c.place_all.new.builder ps c.args.begun c.requires.placed c.requires.begun placed.0 none refused.1 ∙ ap Some (sym refused.0))
+    (λ cause refused. LineOutcome-err draft ps c.args.begun c.requires.sound c.requires.placed c.requires.begun c.requires.room c.requires.steps c.place_all.new.builder placed.0 none refused.1 ∙ ap Some (sym refused.0))

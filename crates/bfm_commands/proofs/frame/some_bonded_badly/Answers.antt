@@ -13,8 +13,8 @@ is_bonded_well-requires-clause-place c =
 
 pub returns-then-not-is_bonded_well : goal.returns-then-not-is_bonded_well
 returns-then-not-is_bonded_well c =
-    let fails : passes_at (is_bonded_well c.args.builder.now) c.args.positions.now c.loop-k.k ≡ false = search rules in
-    sym (some_fails-at (is_bonded_well c.args.builder.now) c.args.positions.now c.args.begun c.loop-k.k (omega arith) (omega arith) fails)
+    let fails : passes_at (is_bonded_well c.args.builder.now.world) c.args.positions.now c.loop-k.k ≡ false = search rules in
+    sym (some_fails-at (is_bonded_well c.args.builder.now.world) c.args.positions.now c.args.begun c.loop-k.k (omega arith) (omega arith) fails)
 
 pub returns : goal.returns
-returns c = sym (some_fails-none (is_bonded_well c.args.builder.now) c.args.positions.now c.args.begun (λ j a b. c.loop-k.invariant j a (omega arith)))
+returns c = sym (some_fails-none (is_bonded_well c.args.builder.now.world) c.args.positions.now c.args.begun (λ j a b. c.loop-k.invariant j a (omega arith)))

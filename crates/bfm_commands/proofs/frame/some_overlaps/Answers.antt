@@ -13,8 +13,8 @@ is_clear-requires-clause-place c =
 
 pub returns-then-not-is_clear : goal.returns-then-not-is_clear
 returns-then-not-is_clear c =
-    let fails : passes_at (is_apart c.args.builder.now) c.args.positions.now c.loop-k.k ≡ false = search rules in
-    sym (some_fails-at (is_apart c.args.builder.now) c.args.positions.now c.args.begun c.loop-k.k (omega arith) (omega arith) fails)
+    let fails : passes_at (is_apart c.args.builder.now.world) c.args.positions.now c.loop-k.k ≡ false = search rules in
+    sym (some_fails-at (is_apart c.args.builder.now.world) c.args.positions.now c.args.begun c.loop-k.k (omega arith) (omega arith) fails)
 
 pub returns : goal.returns
-returns c = sym (some_fails-none (is_apart c.args.builder.now) c.args.positions.now c.args.begun (λ j a b. c.loop-k.invariant j a (omega arith)))
+returns c = sym (some_fails-none (is_apart c.args.builder.now.world) c.args.positions.now c.args.begun (λ j a b. c.loop-k.invariant j a (omega arith)))

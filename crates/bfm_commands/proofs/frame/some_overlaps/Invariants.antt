@@ -4,4 +4,4 @@ use Rattle.bfm_commands.proofs.FrameLemmas.{passes_at}
 use Rattle.bfm_commands.proofs.frame.some_overlaps.Given as goal
 
 abbrev pub invariant-loop-k : goal.invariant-loop-k
-invariant-loop-k l = (j : ℕ) → l.begun ≤ j → j < l.k → passes_at (is_apart l.builder) l.positions j ≡ true
+invariant-loop-k l = (j : ℕ) → l.begun ≤ j → j < l.k → passes_at (is_apart l.builder.world) l.positions j ≡ true

@@ -3,7 +3,7 @@ use Rattle.bfm_commands.proofs.ReadLemmas.{HeaderSoFar-few, HasFound-next, HasRe
 use Rattle.bfm_commands.proofs.read.read_header.Goals as goal
 
 pub take-requires : goal.take-requires
-take-requires c = omega (arith, c.requires, HeaderSoFar-few c.args.bytes.now c.loop-line.header c.loop-line.rest.now c.loop-line.invariant)
+take-requires c = omega (arith, HeaderSoFar-few c.args.bytes.now c.loop-line.header c.loop-line.rest.now c.loop-line.invariant)
 
 pub loop-line-preserved : goal.loop-line-preserved
 loop-line-preserved c =
@@ -27,7 +27,7 @@ returns-in-Ok-Some-clause-read c =
     }
 
 pub stop_behind-requires : goal.stop_behind-requires
-stop_behind-requires c = omega (arith, c.requires, HeaderSoFar-few c.args.bytes.now c.loop-line.header c.loop-line.rest.now c.loop-line.invariant)
+stop_behind-requires c = omega (arith, HeaderSoFar-few c.args.bytes.now c.loop-line.header c.loop-line.rest.now c.loop-line.invariant)
 
 pub stop_behind-requires-2 : goal.stop_behind-requires-2
-stop_behind-requires-2 c = omega (arith, c.requires, HeaderSoFar-few c.args.bytes.now c.loop-line.header c.loop-line.rest.now c.loop-line.invariant)
+stop_behind-requires-2 c = omega (arith, HeaderSoFar-few c.args.bytes.now c.loop-line.header c.loop-line.rest.now c.loop-line.invariant)

@@ -9,13 +9,13 @@ use Rattle.bfm_commands.proofs.ReadLemmas.{HeaderRead-few, HeaderRead-values, He
 use Rattle.bfm_commands.proofs.read.read_whole.Goals as goal
 
 pub overflow_add-lines : goal.overflow_add-lines
-overflow_add-lines c = omega (arith, c.requires, HeaderRead-few c.args.bytes.now c.in_ok-header.header c.in_ok-header.mcs c.in_ok-header.rest.now c.in_ok-header.ensures.read)
+overflow_add-lines c = omega (arith, HeaderRead-few c.args.bytes.now c.in_ok-header.header c.in_ok-header.mcs c.in_ok-header.rest.now c.in_ok-header.ensures.read)
 
 pub begin_frame-requires-clause-ready : goal.begin_frame-requires-clause-ready
 begin_frame-requires-clause-ready c = IsReady-header c.in_ok-header.header c.in_ok-header.ensures.read.lines c.in_ok-header.ensures.read.gives (HeaderRead-values c.args.bytes.now c.in_ok-header.header c.in_ok-header.mcs c.in_ok-header.rest.now c.in_ok-header.ensures.read)
 
 pub begin_frame-requires-clause-lines : goal.begin_frame-requires-clause-lines
-begin_frame-requires-clause-lines c = omega (arith, c.requires, HeaderRead-few c.args.bytes.now c.in_ok-header.header c.in_ok-header.mcs c.in_ok-header.rest.now c.in_ok-header.ensures.read)
+begin_frame-requires-clause-lines c = omega (arith, HeaderRead-few c.args.bytes.now c.in_ok-header.header c.in_ok-header.mcs c.in_ok-header.rest.now c.in_ok-header.ensures.read)
 
 pub returns-in_err-frame-clause-refused : goal.returns-in_err-frame-clause-refused
 returns-in_err-frame-clause-refused c =
@@ -24,7 +24,7 @@ returns-in_err-frame-clause-refused c =
     rw (p.1, p.2) (c.in_err-frame.ensures.refused c.args.bytes.now c.in_ok-header.rest.now r.lines r.line c.in_ok-header.mcs r.gives r.begins r.found)
 
 pub read_frame-requires-clause-small : goal.read_frame-requires-clause-small
-read_frame-requires-clause-small c = omega (arith, c.requires, HeaderRead-few c.args.bytes.now c.in_ok-header.header c.in_ok-header.mcs c.in_ok-header.rest.now c.in_ok-header.ensures.read)
+read_frame-requires-clause-small c = omega (arith, HeaderRead-few c.args.bytes.now c.in_ok-header.header c.in_ok-header.mcs c.in_ok-header.rest.now c.in_ok-header.ensures.read)
 
 pub returns-in_err-lines-clause-refused : goal.returns-in_err-lines-clause-refused
 returns-in_err-lines-clause-refused c =
@@ -35,7 +35,7 @@ pub returns-then-placed-count-clause-refused : goal.returns-then-placed-count-cl
 returns-then-placed-count-clause-refused c =
     let whole = c.in_ok-lines.ensures.read c.args.bytes.now (begun_lines c.args.bytes.now c.in_ok-header.header c.in_ok-header.mcs c.in_ok-header.rest.now c.in_ok-header.ensures.read) (HeaderRead-frame c.args.bytes.now c.in_ok-header.header c.in_ok-header.mcs c.in_ok-header.rest.now c.in_ok-header.ensures.read c.in_ok-frame.frame.builder (c.in_ok-frame.ensures.begun c.in_ok-header.ensures.read.lines c.in_ok-header.ensures.read.gives)) (HeaderRead-count c.args.bytes.now c.in_ok-header.header c.in_ok-header.mcs c.in_ok-header.rest.now c.in_ok-header.ensures.read) (HeaderRead-read c.args.bytes.now c.in_ok-header.header c.in_ok-header.mcs c.in_ok-header.rest.now c.in_ok-header.ensures.read c.in_ok-frame.frame.builder (c.in_ok-frame.ensures.begun c.in_ok-header.ensures.read.lines c.in_ok-header.ensures.read.gives)) in
     let builder : Draft = c.read_frame.new.frame.builder in
-    let part : length builder.positions ≢ builder.count = λ q. c.if-placed-count.true (c.placed.ensures ∙ (q ∙ sym c.count.ensures.count)) in
+    let part : length builder.world.positions ≢ builder.count = λ q. c.if-placed-count.true (c.placed.ensures ∙ (q ∙ sym c.count.ensures.count)) in
     subst (λ stop. IsStop stop (verdict_of c.args.bytes.now)) (sym c.stop_behind.ensures)
     (IsStop-part c.args.bytes.now c.in_ok-lines.rest.now builder (mcs_of (begun_lines c.args.bytes.now c.in_ok-header.header c.in_ok-header.mcs c.in_ok-header.rest.now c.in_ok-header.ensures.read)) c.in_ok-lines.lines whole part)
 
@@ -48,6 +48,6 @@ returns-clause-ok c =
     let builder : Draft = c.read_frame.new.frame.builder in
     let timed : FrameRead c.args.bytes.now builder c.in_ok-header.mcs c.in_ok-lines.lines c.in_ok-lines.rest.now =
     subst (λ mcs. FrameRead c.args.bytes.now builder mcs c.in_ok-lines.lines c.in_ok-lines.rest.now) (HeaderRead-time c.args.bytes.now c.in_ok-header.header c.in_ok-header.mcs c.in_ok-header.rest.now c.in_ok-header.ensures.read) whole in
-    let full : length builder.positions ≡ builder.count = sym c.placed.ensures ∙ (c.if-placed-count.false ∙ c.count.ensures.count) in
+    let full : length builder.world.positions ≡ builder.count = sym c.placed.ensures ∙ (c.if-placed-count.false ∙ c.count.ensures.count) in
     verdict_of-read c.args.bytes.now c.in_ok-lines.rest.now builder c.in_ok-header.mcs c.in_ok-lines.lines (length c.args.bytes.now - length c.in_ok-lines.rest.now) c.finish.result c.of.result
     timed full c.finish.ensures.world (c.of.ensures ∙ c.in_ok-lines.ensures.list) refl
