@@ -1,1 +1,4 @@
-mod FrameLemmas
+mod BatchLemmas
+mod RowLemmas
+mod RowExamples
+mod RowPositions

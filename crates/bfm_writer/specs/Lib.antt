@@ -1,1 +1,4 @@
+pub mod Batch
+pub mod Part
+pub mod Rows
 pub mod Text

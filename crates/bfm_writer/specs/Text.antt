@@ -1,51 +1,29 @@
 -- The texts of frames and groups. Monomers are counted from 0 here and from 1 in a text.
-use Rattle.std.specs.Prelude.{ℕ, zero, suc, ◌+◌, min, max, Bool, is_none, List, [], ◌∷◌, ◌++◌, length, codes, decimal, Option, None, Some, if◌then◌else◌}
+use Rattle.std.specs.Prelude.{ℕ, ◌+◌, min, max, List, [], ◌∷◌, ◌++◌, codes, decimal}
 use Rattle.std.specs.Fmt.{signed_decimal}
 use Rattle.std.specs.List.{concat, flat_map}
 use Rattle.bfm_base.specs.declared.place.P3.{P3}
-use Rattle.bfm_geom.specs.Difference.{minus}
-use Rattle.bond_set.specs.BondSet.{id_of}
-use Rattle.bfm_world.specs.Bonds.{are_bonded}
-use Rattle.bfm_world.specs.Configuration.{Configuration, position_of}
-
--- The identifier by which a monomer continues the line of the one before it: the two are bonded, and their plain
--- difference is in the set. The first monomer, and each other that has none, begins a line.
-abbrev pub continuation : Configuration → ℕ → Option ℕ
-continuation w zero = None
-continuation w (suc k) = if are_bonded w.bonds k (suc k) then id_of w.set (minus (position_of w (suc k)) (position_of w k)) else None
-
-abbrev pub begins_line : Configuration → ℕ → Bool
-begins_line w k = is_none (continuation w k)
+use Rattle.bfm_world.specs.Configuration.{Configuration}
+use Rattle.bfm_writer.specs.Rows.{Row, rows_of}
 
 -- three numbers with a space between them
 abbrev pub position_text : P3 → List ℕ
 position_text p = concat (signed_decimal p.x ∷ codes " " ∷ signed_decimal p.y ∷ codes " " ∷ signed_decimal p.z ∷ [])
 
--- the space before the first identifier of a line
-abbrev pub space_before : Configuration → ℕ → List ℕ
-space_before w zero = []
-space_before w (suc k) = if begins_line w k then codes " " else []
+-- one space and the identifiers, where there are any
+abbrev pub ids_text : List ℕ → List ℕ
+ids_text [] = []
+ids_text (id ∷ ids) = codes " " ++ id ∷ ids
 
-abbrev pub written : Configuration → ℕ → Option ℕ → List ℕ
-written w k None = position_text (position_of w k)
-written w k (Some id) = space_before w k ++ id ∷ []
-
--- A monomer is written by its position where it begins a line, else by its identifier. A line ends where the next
--- monomer begins one.
-abbrev pub monomer_text : Configuration → ℕ → List ℕ
-monomer_text w k = written w k (continuation w k) ++ (if begins_line w (k + 1) then codes "\n" else [])
-
--- the lines of the first n monomers
-abbrev pub frame_lines : Configuration → ℕ → List ℕ
-frame_lines w zero = []
-frame_lines w (suc n) = frame_lines w n ++ monomer_text w n
+abbrev pub row_text : Row → List ℕ
+row_text row = position_text row.start ++ ids_text row.ids ++ codes "\n"
 
 abbrev pub time_line : ℕ → List ℕ
 time_line mcs = concat (codes "!mcs=" ∷ decimal mcs ∷ codes "\n" ∷ [])
 
--- a frame: its time, and its monomers
+-- a frame: its time, and its rows
 abbrev pub frame_text : Configuration → ℕ → List ℕ
-frame_text w mcs = time_line mcs ++ frame_lines w (length w.positions)
+frame_text w mcs = time_line mcs ++ flat_map row_text (rows_of w)
 
 -- a bond: the numbers of its monomers, the lesser one first
 abbrev pub bond_line : ℕ × ℕ → List ℕ

@@ -1,105 +1,101 @@
-ghost use Rattle.std.specs.Prelude.{◌≡◌, ◌+◌, ◌<◌, ◌≤◌, ◌++◌, [], length, codes, OnOk, OnErr, if◌then◌else◌};
-ghost use Rattle.bfm_base.specs.Faults.{TookAll, TookFront};
-ghost use Rattle.bfm_writer.specs.Text.{begins_line, continuation, frame_lines, frame_text, monomer_text, position_text, space_before, time_line, written};
+ghost use Rattle.std.specs.Prelude.{◌≡◌, ◌-◌, ◌<◌, ◌++◌, ◌∷◌, [], length};
+ghost use Rattle.std.specs.List.{flat_map};
+ghost use Rattle.bfm_writer.specs.Batch.{Passes};
+ghost use Rattle.bfm_writer.specs.Rows.{continuation, rows_of};
+ghost use Rattle.bfm_writer.specs.Text.{position_text, row_text, time_line};
+ghost use Rattle.bfm_writer.specs.Part.{left_behind, id_text};
 
-use bfm_base::{Failed, P3, Sink, send, send_all};
+use crate::batch::Batch;
+use bfm_base::{Failed, P3, Sink};
 use bfm_geom::plain_difference;
 use bfm_world::World;
 use itoa::Buffer;
 
-/// Writes the frame of a world at a time, in sweeps.
-pub(crate) fn frame<S: Sink>(world: &World, mcs: u64, sink: &mut S) -> Result<(), Failed>
-    ensures ok { OnOk result (TookAll (S.taken sink.old) (S.taken sink.new) (S.faults sink.old) (S.faults sink.new) (frame_text world.now mcs)) }
-    ensures failed { OnErr result (TookFront (S.taken sink.old) (S.taken sink.new) (S.faults sink.old) (S.faults sink.new) (frame_text world.now mcs)) }
-{
-    time(mcs, sink)?;
-    monomers(world, sink)
+/// What is written of a row so far.
+#[derive(Clone, Copy)]
+enum Part {
+    /// The position of its first monomer alone.
+    Start,
+    /// Identifiers too.
+    Ids,
 }
 
-/// Writes the time of a frame.
-fn time<S: Sink>(mcs: u64, sink: &mut S) -> Result<(), Failed>
-    ensures ok { OnOk result (TookAll (S.taken sink.old) (S.taken sink.new) (S.faults sink.old) (S.faults sink.new) (time_line mcs)) }
-    ensures failed { OnErr result (TookFront (S.taken sink.old) (S.taken sink.new) (S.faults sink.old) (S.faults sink.new) (time_line mcs)) }
+/// Writes the time of a frame, in sweeps.
+pub(crate) fn write_time<S: Sink>(mcs: u64, batch: &mut Batch, sink: &mut S) -> Result<(), Failed>
+    ensures { Passes result (S.account sink.old) (S.account sink.new) (batch.old ++ time_line mcs) (λ _. batch.new) }
 {
     let mut number = Buffer::new();
-    send_all(sink, &[b"!mcs=", number.format(mcs).as_bytes(), b"\n"])
+    batch.put_pieces(&[b"!mcs=", number.format(mcs).as_bytes(), b"\n"], sink)
 }
 
-/// Writes the lines of all monomers.
-fn monomers<S: Sink>(world: &World, sink: &mut S) -> Result<(), Failed>
-    ensures ok { OnOk result (TookAll (S.taken sink.old) (S.taken sink.new) (S.faults sink.old) (S.faults sink.new) (frame_lines world.now (length world.now.positions))) }
-    ensures failed { OnErr result (TookFront (S.taken sink.old) (S.taken sink.new) (S.faults sink.old) (S.faults sink.new) (frame_lines world.now (length world.now.positions))) }
+/// Writes the rows of all monomers.
+pub(crate) fn write_rows<S: Sink>(
+    world: &World,
+    batch: &mut Batch,
+    sink: &mut S,
+) -> Result<(), Failed>
+    ensures { Passes result (S.account sink.old) (S.account sink.new) (batch.old ++ flat_map row_text (rows_of world.now)) (λ _. batch.new) }
 {
-    for k in 0..world.len() {
-        monomer(world, k, sink)?;
+    let count = world.len();
+    write_position(world.position(0), batch, sink)?;
+    let mut part = Part::Start;
+    for k in 1..count {
+        part = write_monomer(world, k, part, batch, sink)?;
     }
-    Ok(())
+    batch.put(b"\n", sink)
 }
 
-/// Writes a monomer, and the end of its line where the next one begins another.
-fn monomer<S: Sink>(world: &World, k: u32, sink: &mut S) -> Result<(), Failed>
-    requires { k < length world.now.positions }
-    ensures ok { OnOk result (TookAll (S.taken sink.old) (S.taken sink.new) (S.faults sink.old) (S.faults sink.new) (monomer_text world.now k)) }
-    ensures failed { OnErr result (TookFront (S.taken sink.old) (S.taken sink.new) (S.faults sink.old) (S.faults sink.new) (monomer_text world.now k)) }
+/// Writes a monomer that is not the first, where a part of the row of the one before it is written,
+/// and answers what is then written of its own row.
+fn write_monomer<S: Sink>(
+    world: &World,
+    k: u32,
+    part: Part,
+    batch: &mut Batch,
+    sink: &mut S,
+) -> Result<Part, Failed>
+    requires later { 0 < k }
+    requires monomer { k < length world.now.positions }
+    ensures { Passes result (S.account sink.old) (S.account sink.new) (batch.old ++ left_behind part world.now (k - 1)) (λ now. batch.new ++ left_behind now world.now k) }
 {
-    place(world, k, sink)?;
-    send(sink, line_end(world, k))
+    if let Some(id) = continuation(world, k) {
+        write_id(id, part, batch, sink)?;
+        return Ok(Part::Ids);
+    }
+    batch.push(b'\n', sink)?;
+    write_position(world.position(k), batch, sink)?;
+    Ok(Part::Start)
 }
 
-/// Writes where a monomer stands: its position where it begins a line, else its identifier.
-fn place<S: Sink>(world: &World, k: u32, sink: &mut S) -> Result<(), Failed>
-    requires { k < length world.now.positions }
-    ensures ok { OnOk result (TookAll (S.taken sink.old) (S.taken sink.new) (S.faults sink.old) (S.faults sink.new) (written world.now k (continuation world.now k))) }
-    ensures failed { OnErr result (TookFront (S.taken sink.old) (S.taken sink.new) (S.faults sink.old) (S.faults sink.new) (written world.now k (continuation world.now k))) }
+/// Writes an identifier, and a space before the first one of a row.
+fn write_id<S: Sink>(id: u8, part: Part, batch: &mut Batch, sink: &mut S) -> Result<(), Failed>
+    ensures { Passes result (S.account sink.old) (S.account sink.new) (batch.old ++ id_text part id) (λ _. batch.new) }
 {
-    match continuation(world, k) {
-        None => position(world.position(k), sink),
-        Some(id) => send_all(sink, &[space_before(world, k), &[id]]),
+    match part {
+        Part::Start => batch.put(&[b' ', id], sink),
+        Part::Ids => batch.push(id, sink),
     }
 }
 
 /// Writes a position.
-fn position<S: Sink>(p: P3, sink: &mut S) -> Result<(), Failed>
-    ensures ok { OnOk result (TookAll (S.taken sink.old) (S.taken sink.new) (S.faults sink.old) (S.faults sink.new) (position_text p)) }
-    ensures failed { OnErr result (TookFront (S.taken sink.old) (S.taken sink.new) (S.faults sink.old) (S.faults sink.new) (position_text p)) }
+fn write_position<S: Sink>(p: P3, batch: &mut Batch, sink: &mut S) -> Result<(), Failed>
+    ensures { Passes result (S.account sink.old) (S.account sink.new) (batch.old ++ position_text p) (λ _. batch.new) }
 {
     let (mut x, mut y, mut z) = (Buffer::new(), Buffer::new(), Buffer::new());
     let x = x.format(p.x).as_bytes();
     let y = y.format(p.y).as_bytes();
     let z = z.format(p.z).as_bytes();
-    send_all(sink, &[x, b" ", y, b" ", z])
+    batch.put_pieces(&[x, b" ", y, b" ", z], sink)
 }
 
-/// The newline behind a monomer, where it is the last one or the next one begins a line.
-fn line_end(world: &World, k: u32) -> &'static [u8]
-    requires { k < length world.now.positions }
-    ensures { result.now ≡ (if begins_line world.now (k + 1) then codes "\n" else []) }
-{
-    if world.len() == k + 1 || continuation(world, k + 1).is_none() {
-        b"\n"
-    } else {
-        b""
-    }
-}
-
-/// The space before an identifier, where it is the first of its line.
-fn space_before(world: &World, k: u32) -> &'static [u8]
-    requires { k < length world.now.positions }
-    ensures { result.now ≡ space_before world.now k }
-{
-    if k > 0 && continuation(world, k - 1).is_none() {
-        b" "
-    } else {
-        b""
-    }
-}
-
-/// The identifier by which a monomer continues the line of the one before it, where it does.
+/// The identifier by which a monomer that is not the first continues the row of the one before it,
+/// where it does.
 fn continuation(world: &World, k: u32) -> Option<u8>
-    requires { k < length world.now.positions }
-    ensures { result ≡ continuation world.now k }
+    requires later { 0 < k }
+    requires monomer { k < length world.now.positions }
+    ensures { result ≡ continuation world.now (k - 1) }
 {
-    if k == 0 || !world.bonded(k - 1, k) {
+    if !world.bonded(k - 1, k) {
         return None;
     }
     let step = plain_difference(world.position(k - 1), world.position(k));

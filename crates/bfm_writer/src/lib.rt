@@ -2,9 +2,10 @@
 //! each the bonds that were added since the last one.
 //! It stands on `bfm_world` for the monomers and their bonds, on `bond_set` for the identifiers and
 //! on `bfm_base` for the sink. It promises that `group` writes exactly the text of the world, that
-//! it fails only where the sink failed, after a front of that text, and that nothing takes memory.
+//! it fails only where the sink failed, after a prefix of that text, and that nothing takes memory.
 #![tactic(auto)]
 
+mod batch;
 mod frames;
 mod groups;
 #[cfg(test)]

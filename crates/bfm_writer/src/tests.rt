@@ -79,11 +79,11 @@ const CHAINS: [[i8; 3]; 4] = [[0, 0, 0], [2, 2, 1], [2, 0, 0], [0, 2, 1]];
 const CHAINS_TEXT: &str = "\n!add_bonds\n3 4\n1 2\n!mcs=10\n0 0 0 G\n2 0 0 W\n";
 
 #[test]
-fn a_group_of_the_usual_set_and_its_fronts(rt: HostRuntime) -> Result<(), Fail> {
+fn a_group_of_the_usual_set_and_its_prefixes(rt: HostRuntime) -> Result<(), Fail> {
     let usual = BondSet::usual(rt.alloc())?;
     let world = world_of(&rt, rt.alloc(), usual, &CHAINS, &[(1, 0), (2, 3)])?;
     let text = CHAINS_TEXT.as_bytes();
-    // the sink has room for a front alone, until it has room for the whole
+    // the sink has room for a prefix alone, until it has room for the whole
     for room in 0..text.len() + 1 {
         let mut sink = MemSink::new(rt.alloc(), room, 3, &[])?;
         let written = group(&world, 10, &[(3, 2), (0, 1)], &mut sink);
@@ -91,7 +91,7 @@ fn a_group_of_the_usual_set_and_its_fronts(rt: HostRuntime) -> Result<(), Fail> 
         assert!(rt; sink.bytes() == &text[..room]);
     }
     // nothing is written after a call that fails
-    let mut sink = MemSink::new(rt.alloc(), 100, 100, &[3])?;
+    let mut sink = MemSink::new(rt.alloc(), 100, 3, &[5])?;
     assert!(rt; group(&world, 10, &[(3, 2), (0, 1)], &mut sink).is_err());
     assert!(rt; sink.bytes() == &text[..12]);
     Ok(())
