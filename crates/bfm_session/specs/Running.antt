@@ -1,0 +1,51 @@
+-- What running a file comes to.
+use Rattle.std.specs.Prelude.{◌≡◌, ℕ, zero, suc, ◌+◌, ◌*◌, Bool, true, false, ◌||◌, nat_lt, List, [], ◌++◌, length, Result, Ok, Err}
+use Rattle.bfm_base.specs.Account.{Account, Delivered, TookPrefix}
+use Rattle.bfm_base.specs.declared.limits.TheConstants.{GREATEST_MCS, RUN_REACH}
+use Rattle.bfm_world.specs.Configuration.{reach_of}
+use Rattle.bfm_commands.specs.declared.loaded.Loaded.{Loaded}
+use Rattle.bfm_writer.specs.Text.{group_text}
+use Rattle.sweep_run.specs.Sweep.{Progress, after_sweeps, begun_with}
+use Rattle.bfm_session.specs.declared.order.RunOrder.{RunOrder}
+use Rattle.bfm_session.specs.declared.running.RunDone.{RunDone}
+use Rattle.bfm_session.specs.declared.running.RunFault.{RunFault}
+use Rattle.bfm_session.specs.declared.running.RunFault.TheVariants as faults
+
+-- the groups of a run, with no bond added: one after each `every` sweeps, which begin with sweep `mcs`
+abbrev pub groups_text : ℕ → ℕ → ℕ → ℕ → Progress → List ℕ
+groups_text seed every mcs zero start = []
+groups_text seed every mcs (suc frames) start =
+    groups_text seed every mcs frames start
+    ++ group_text (after_sweeps seed mcs (suc frames * every) start).world (mcs + suc frames * every) []
+
+-- the last time of a run, and how far from the origin a monomer might come in it: an attempt moves one by one unit
+abbrev pub last_mcs : Loaded → RunOrder → ℕ
+last_mcs loaded order = loaded.mcs + order.frames * order.every
+
+abbrev pub last_reach : Loaded → RunOrder → ℕ
+last_reach loaded order =
+    reach_of loaded.world.positions + length loaded.world.positions * (order.frames * order.every)
+
+-- the run would pass the greatest time, or might bring a monomer too far
+abbrev pub is_too_far : Loaded → RunOrder → Bool
+is_too_far loaded order = nat_lt GREATEST_MCS (last_mcs loaded order) || nat_lt RUN_REACH (last_reach loaded order)
+
+-- the kept part of the input, and then the groups
+abbrev pub run_text : Loaded → RunOrder → List ℕ → List ℕ
+run_text loaded order kept = kept ++ groups_text order.seed order.every loaded.mcs order.frames (begun_with loaded.world)
+
+abbrev pub run_done : Loaded → RunOrder → RunDone
+run_done loaded order = record {
+  mcs = last_mcs loaded order;
+  accepted = (after_sweeps order.seed loaded.mcs (order.frames * order.every) (begun_with loaded.world)).accepted;
+}
+
+-- What a run does to a sink: it refuses to begin, or the sink takes the text of the run and flushes it, or a prefix of it
+-- until a call fails. `untouched` says that the sink is as it was.
+abbrev pub Runs : Result RunDone RunFault → Loaded → RunOrder → List ℕ → Account → Account → Type 0 → Type 0
+Runs (Ok done) loaded order kept old new untouched =
+    (is_too_far loaded order ≡ false) × (done ≡ run_done loaded order) × Delivered old new (run_text loaded order kept)
+Runs (Err (faults.TooFar mcs reach)) loaded order kept old new untouched =
+    (is_too_far loaded order ≡ true) × (mcs ≡ last_mcs loaded order) × (reach ≡ last_reach loaded order) × untouched
+Runs (Err faults.WriteFault) loaded order kept old new untouched =
+    (is_too_far loaded order ≡ false) × TookPrefix old new (run_text loaded order kept)

@@ -1,0 +1,111 @@
+ghost use Rattle.std.specs.Prelude.{◌≡◌, ◌+◌, ◌*◌, ◌≤◌, ◌++◌, length, IfOk};
+ghost use Rattle.bfm_base.specs.Account.{Sends, Delivers};
+ghost use Rattle.bfm_base.specs.declared.limits.TheConstants.{MOST_FRAMES, MOST_SWEEPS};
+ghost use Rattle.bfm_world.specs.Configuration.{reach_of};
+ghost use Rattle.sweep_run.specs.Sweep.{after_sweeps, begun_with};
+ghost use Rattle.bfm_session.specs.Running.{Runs, groups_text};
+
+use crate::order::RunOrder;
+use bfm_base::limits::{GREATEST_MCS, RUN_REACH};
+use bfm_base::{Failed, Sink, send};
+use bfm_commands::Loaded;
+use bfm_world::{Engine, World};
+use bfm_writer::group;
+use plain_move::PlainEngine;
+use sweep_run::sweeps;
+use thiserror::Error;
+
+/// What a finished run tells of itself.
+#[derive(Clone, Copy, Debug, PartialEq, Eq)]
+pub struct RunDone {
+    /// The last time, in sweeps.
+    pub mcs: u64,
+    /// The number of moves that were made.
+    pub accepted: u64,
+}
+
+/// Why a run was not made, or not written to its end.
+#[derive(Debug, Drop, Error)]
+pub enum RunFault {
+    /// It would pass the greatest time, or might bring a monomer too far from the origin: the last
+    /// time, in sweeps, and that reach, in lattice units.
+    #[error("TooFar")]
+    TooFar { mcs: u128, reach: u128 },
+    /// A call of the sink failed.
+    #[error("WriteFault")]
+    WriteFault,
+}
+
+/// Runs a file that was loaded. Writes its kept part, and then a group after each `every` sweeps,
+/// and flushes. It refuses to begin where it would come too far.
+pub fn run<O: Sink>(
+    loaded: Loaded,
+    kept: &[u8],
+    order: &RunOrder,
+    output: &mut O,
+) -> Result<RunDone, RunFault>
+    requires frames { order.now.frames ≤ MOST_FRAMES }
+    requires every { order.now.every ≤ MOST_SWEEPS }
+    requires mcs { loaded.mcs ≤ GREATEST_MCS }
+    ensures { Runs result loaded order.now kept.now (O.account output.old) (O.account output.new) (output.new ≡ output.old) }
+{
+    let sweeps = order.frames * order.every;
+    let mcs = u128::from(loaded.mcs) + u128::from(sweeps);
+    let monomers = u128::from(loaded.world.len());
+    let reach = u128::from(loaded.world.reach().unsigned_abs()) + monomers * u128::from(sweeps);
+    if mcs > u128::from(GREATEST_MCS) || reach > u128::from(RUN_REACH) {
+        return Err(RunFault::TooFar { mcs, reach });
+    }
+    match frames(loaded.world, loaded.mcs, kept, order, output) {
+        Ok(accepted) => Ok(RunDone {
+            mcs: loaded.mcs + sweeps,
+            accepted,
+        }),
+        Err(_) => Err(RunFault::WriteFault),
+    }
+}
+
+/// Writes the kept part and the groups of a run that does not come too far, and flushes. Answers how
+/// many moves were made.
+fn frames<O: Sink>(
+    world: World,
+    mcs: u64,
+    kept: &[u8],
+    order: &RunOrder,
+    output: &mut O,
+) -> Result<u64, Failed>
+    requires last { mcs + order.now.frames * order.now.every ≤ GREATEST_MCS }
+    requires reach { reach_of world.positions + length world.positions * (order.now.frames * order.now.every) ≤ RUN_REACH }
+    ensures written { Delivers result (O.account output.old) (O.account output.new)
+        (kept.now ++ groups_text order.now.seed order.now.every mcs order.now.frames (begun_with world)) }
+    ensures accepted { IfOk result (λ accepted. accepted
+        ≡ (after_sweeps order.now.seed mcs (order.now.frames * order.now.every) (begun_with world)).accepted) }
+{
+    send(output, kept)?;
+    let accepted = groups(&mut PlainEngine::new(world), mcs, order, output)?;
+    output.flush()?;
+    Ok(accepted)
+}
+
+/// Makes the sweeps of a run, and writes its groups. Answers how many moves were made.
+fn groups<E: Engine, O: Sink>(
+    engine: &mut E,
+    mcs: u64,
+    order: &RunOrder,
+    output: &mut O,
+) -> Result<u64, Failed>
+    requires last { mcs + order.now.frames * order.now.every ≤ GREATEST_MCS }
+    requires reach { reach_of (E.configuration engine.old).positions + length (E.configuration engine.old).positions * (order.now.frames * order.now.every) ≤ RUN_REACH }
+    ensures sent { Sends result (O.account output.old) (O.account output.new)
+        (groups_text order.now.seed order.now.every mcs order.now.frames (begun_with (E.configuration engine.old))) }
+    ensures accepted { IfOk result (λ accepted. accepted
+        ≡ (after_sweeps order.now.seed mcs (order.now.frames * order.now.every) (begun_with (E.configuration engine.old))).accepted) }
+{
+    let mut accepted = 0;
+    for frame in 0..order.frames {
+        let first = mcs + frame * order.every;
+        accepted += sweeps(engine, order.seed, first, order.every);
+        group(engine.world(), first + order.every, &[], output)?;
+    }
+    Ok(accepted)
+}

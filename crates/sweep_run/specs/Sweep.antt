@@ -1,0 +1,54 @@
+-- Attempts, sweeps and runs. A sweep is as many attempts as there are monomers. All attempts of a run
+-- are numbered through: attempt a of sweep t in a world of n monomers has the number n * t + a.
+use Rattle.std.specs.Prelude.{ℕ, zero, suc, ◌+◌, ◌*◌, ◌/◌, ◌^◌, length, slice_index_or, if◌then◌else◌}
+use Rattle.bfm_base.specs.declared.place.Dir.{Dir}
+use Rattle.bfm_base.specs.declared.place.Dir.TheVariants.{XUp}
+use Rattle.bfm_base.specs.Direction.{directions}
+use Rattle.bfm_world.specs.Configuration.{Configuration, is_legal, moved}
+use Rattle.sweep_stream.specs.RandomWords.{word_at}
+
+-- the monomer and the direction that attempt k takes: words 3k and 3k + 1, read as fractions of 2^32
+abbrev pub monomer_of : ℕ → ℕ → ℕ → ℕ
+monomer_of n seed k = word_at seed (3 * k) * n / 2 ^ 32
+
+abbrev pub direction_of : ℕ → ℕ → Dir
+direction_of seed k = slice_index_or directions (word_at seed (3 * k + 1) * 6 / 2 ^ 32) XUp
+
+-- a world in a run, and how many moves have been made
+pub record Progress : Type 0 where
+  pub world : Configuration
+  pub accepted : ℕ
+
+-- An attempt moves its monomer where the step is legal. (Without contacts each third word is below the
+-- threshold.)
+abbrev pub attempted : Progress → ℕ → Dir → Progress
+attempted run i d =
+    if is_legal run.world i d then record { world = moved run.world i d; accepted = run.accepted + 1 } else run
+
+-- after `count` attempts from number `first` on, in a world of n monomers
+abbrev pub after_attempts : ℕ → ℕ → ℕ → ℕ → Progress → Progress
+after_attempts n seed first zero run = run
+after_attempts n seed first (suc count) run =
+    after_attempts n seed (first + 1) count (attempted run (monomer_of n seed first) (direction_of seed first))
+
+-- after sweep t
+abbrev pub swept : ℕ → ℕ → Progress → Progress
+swept seed t run =
+    let n = length run.world.positions in
+    after_attempts n seed (n * t) n run
+
+-- after as many sweeps as `count`, of which t is the first
+abbrev pub after_sweeps : ℕ → ℕ → ℕ → Progress → Progress
+after_sweeps seed t zero run = run
+after_sweeps seed t (suc count) run = after_sweeps seed (t + 1) count (swept seed t run)
+
+-- the state of a run after as many sweeps as `count`, of which t is the first, and then a further attempts
+abbrev pub state_at : ℕ → ℕ → ℕ → ℕ → Progress → Progress
+state_at seed t count a run =
+    let begun = after_sweeps seed t count run in
+    let n = length begun.world.positions in
+    after_attempts n seed (n * (t + count)) a begun
+
+-- a run begins with no move made
+abbrev pub begun_with : Configuration → Progress
+begun_with world = record { world = world; accepted = 0 }
