@@ -1,5 +1,3 @@
-pub mod JobLemmas
-pub mod SweepLemmas
-pub mod TextLemmas
-pub mod ToolLemmas
-pub mod WordLemmas
+mod JobLemmas
+mod OutcomeLemmas
+mod WordLemmas

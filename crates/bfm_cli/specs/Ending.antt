@@ -1,24 +1,30 @@
--- How the work of the program ends, and what is then said of its input and its output.
-use Rattle.std.specs.Prelude.{◌≡◌, ℕ, List, [], ◌∷◌, Option, codes, decimal}
+-- How a job ends: its status and its report.
+use Rattle.std.specs.Prelude.{ℕ, List, [], ◌∷◌, codes, decimal, Result, Ok, Err}
 use Rattle.std.specs.List.{concat}
-use Rattle.bfm_base.specs.Cause.{number_of, name_of}
-use Rattle.bfm_base.specs.Faults.{TookAll, TookFront}
-use Rattle.bfm_cli.specs.Text.{report_line}
-use Rattle.bfm_cli.specs.Outcome.{Outcome, input_limit}
+use Rattle.bfm_base.specs.Cause.{cause_number, cause_name}
 use Rattle.bfm_cli.specs.declared.ending.Ending.{Ending}
 use Rattle.bfm_cli.specs.declared.ending.Ending.TheVariants as ends
+use Rattle.bfm_cli.specs.declared.ending.Fault.{Fault}
+use Rattle.bfm_cli.specs.declared.ending.Fault.TheVariants as faults
 use Rattle.bfm_cli.specs.declared.status.Status.{Status}
 use Rattle.bfm_cli.specs.declared.status.Status.TheVariants as statuses
 
 abbrev pub status_of : Ending → Status
 status_of (ends.Done done) = statuses.Done
-status_of (ends.BadWords place) = statuses.BadWords
+status_of (ends.BadWords word) = statuses.BadWords
 status_of (ends.BadFile refused) = statuses.BadFile
-status_of ends.ReadFault = statuses.ReadFault
-status_of ends.WriteFault = statuses.WriteFault
-status_of ends.Memory = statuses.Memory
-status_of ends.TooLong = statuses.TooLong
+status_of (ends.TooLong limit) = statuses.TooLong
 status_of (ends.TooFar mcs reach) = statuses.TooFar
+
+abbrev pub fault_status : Fault → Status
+fault_status faults.Read = statuses.ReadFault
+fault_status faults.Write = statuses.WriteFault
+fault_status faults.Memory = statuses.Memory
+
+-- the status of a job that came to its ending or was kept from it by a fault
+abbrev pub ended_status : Result Ending Fault → Status
+ended_status (Ok ending) = status_of ending
+ended_status (Err fault) = fault_status fault
 
 -- the exit status of the process
 abbrev pub code_of : Status → ℕ
@@ -32,6 +38,10 @@ code_of statuses.TooLong = 8
 code_of statuses.ReportFault = 9
 code_of statuses.TooFar = 10
 
+-- a line of a report: a name and a number
+abbrev pub report_line : List ℕ → ℕ → List ℕ
+report_line name n = concat (name ∷ codes " " ∷ decimal n ∷ codes "\n" ∷ [])
+
 -- the text of the report
 abbrev pub report_of : Ending → List ℕ
 report_of (ends.Done done) =
@@ -44,45 +54,18 @@ report_of (ends.Done done) =
     ∷ report_line (codes "links") 0
     ∷ []
     )
-report_of (ends.BadWords place) = report_line (codes "words") place
+report_of (ends.BadWords word) = report_line (codes "words") word
 report_of (ends.BadFile refused) =
-    concat (codes "line " ∷ decimal refused.line ∷ codes " cause " ∷ decimal (number_of refused.cause) ∷ codes " " ∷ name_of refused.cause ∷ codes "\n" ∷ [])
-report_of ends.ReadFault = codes "read\n"
-report_of ends.WriteFault = codes "write\n"
-report_of ends.Memory = []
-report_of ends.TooLong = report_line (codes "long") input_limit
+    concat (codes "line " ∷ decimal refused.line ∷ codes " cause " ∷ decimal (cause_number refused.cause) ∷ codes " " ∷ cause_name refused.cause ∷ codes "\n" ∷ [])
+report_of (ends.TooLong limit) = report_line (codes "long") limit
 report_of (ends.TooFar mcs reach) = concat (codes "far " ∷ decimal mcs ∷ codes " " ∷ decimal reach ∷ codes "\n" ∷ [])
 
--- An ending is that of the outcome, in status and report. A fault of writing comes only where the outcome
--- is Done; a fault of reading and want of memory say nothing of it.
-abbrev pub Agrees : Ending → Outcome → Type 0
-Agrees ends.ReadFault outcome = Unit {0}
-Agrees ends.Memory outcome = Unit {0}
-Agrees ends.WriteFault outcome = outcome.status ≡ statuses.Done
-Agrees (ends.Done done) outcome = (outcome.status ≡ statuses.Done) × (outcome.report ≡ report_of (ends.Done done))
-Agrees (ends.BadWords place) outcome = (outcome.status ≡ statuses.BadWords) × (outcome.report ≡ report_of (ends.BadWords place))
-Agrees (ends.BadFile refused) outcome = (outcome.status ≡ statuses.BadFile) × (outcome.report ≡ report_of (ends.BadFile refused))
-Agrees ends.TooLong outcome = (outcome.status ≡ statuses.TooLong) × (outcome.report ≡ report_of ends.TooLong)
-Agrees (ends.TooFar mcs reach) outcome = (outcome.status ≡ statuses.TooFar) × (outcome.report ≡ report_of (ends.TooFar mcs reach))
+-- Want of memory makes no report.
+abbrev pub fault_report : Fault → List ℕ
+fault_report faults.Read = codes "read\n"
+fault_report faults.Write = codes "write\n"
+fault_report faults.Memory = []
 
--- what the output took of the text of the outcome
-abbrev pub Writes : Ending → Option (List ℕ) → Option (List ℕ) → ℕ → ℕ → List ℕ → Type 0
-Writes (ends.Done done) old new before now text = TookAll old new before now text
-Writes ends.WriteFault old new before now text = TookFront old new before now text
-Writes (ends.BadWords place) old new before now text = Unit {0}
-Writes (ends.BadFile refused) old new before now text = Unit {0}
-Writes ends.ReadFault old new before now text = Unit {0}
-Writes ends.Memory old new before now text = Unit {0}
-Writes ends.TooLong old new before now text = Unit {0}
-Writes (ends.TooFar mcs reach) old new before now text = Unit {0}
-
--- the endings before the output was first called
-abbrev pub WritesNothing : Ending → Type 0
-WritesNothing (ends.Done done) = ⊥
-WritesNothing ends.WriteFault = ⊥
-WritesNothing (ends.BadWords place) = Unit {0}
-WritesNothing (ends.BadFile refused) = Unit {0}
-WritesNothing ends.ReadFault = Unit {0}
-WritesNothing ends.Memory = Unit {0}
-WritesNothing ends.TooLong = Unit {0}
-WritesNothing (ends.TooFar mcs reach) = Unit {0}
+abbrev pub ended_report : Result Ending Fault → List ℕ
+ended_report (Ok ending) = report_of ending
+ended_report (Err fault) = fault_report fault

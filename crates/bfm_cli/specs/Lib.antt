@@ -1,7 +1,6 @@
 pub mod Ending
 pub mod Job
+pub mod Keys
 pub mod Outcome
 pub mod Promise
-pub mod RandomWords
-pub mod Sweep
-pub mod Text
+pub mod Words

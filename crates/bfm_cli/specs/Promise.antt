@@ -1,18 +1,82 @@
--- What the program promises of its status.
-use Rattle.std.specs.Prelude.{ℕ, List, Option, codes, Result, Ok, Err}
+-- What the program promises: what it did to its input, its output and its report.
+use Rattle.std.specs.Prelude.{◌≡◌, ◌≢◌, ℕ, ◌⊎◌, List, Result, Ok, Err}
+use Rattle.std.specs.Io.KnownBytes.{IsAtEnd}
+use Rattle.bfm_base.specs.Account.{Account, Delivered, TookPrefix}
+use Rattle.bfm_base.specs.Faults.{Rose}
+use Rattle.bfm_base.specs.declared.cause.Cause.TheVariants.{NoFrame}
 use Rattle.bfm_base.specs.declared.cause.Refused.{Refused}
 use Rattle.bfm_world.specs.Configuration.{IsValid}
 use Rattle.bfm_commands.specs.Verdict.{verdict_of}
 use Rattle.bfm_commands.specs.declared.loaded.Loaded.{Loaded}
-use Rattle.bfm_cli.specs.Sweep.{state_at, begun_with}
-use Rattle.bfm_cli.specs.Outcome.{Outcome}
+use Rattle.sweep_run.specs.Sweep.{state_at, begun_with}
+use Rattle.bfm_session.specs.Loading.{Supply, Holds, ReadWhole}
+use Rattle.bfm_session.specs.declared.order.RunOrder.{RunOrder}
+use Rattle.bfm_cli.specs.Ending.{status_of, ended_status, ended_report}
+use Rattle.bfm_cli.specs.Outcome.{Outcome, job_outcome}
 use Rattle.bfm_cli.specs.declared.job.Job.{Job}
 use Rattle.bfm_cli.specs.declared.job.Job.TheVariants.{Run}
-use Rattle.bfm_cli.specs.declared.job.RunOrder.{RunOrder}
-use Rattle.bfm_cli.specs.Ending.{Agrees, Writes}
 use Rattle.bfm_cli.specs.declared.ending.Ending.{Ending}
+use Rattle.bfm_cli.specs.declared.ending.Ending.TheVariants as ends
+use Rattle.bfm_cli.specs.declared.ending.Fault.{Fault}
+use Rattle.bfm_cli.specs.declared.ending.Fault.TheVariants as faults
 use Rattle.bfm_cli.specs.declared.status.Status.{Status}
 use Rattle.bfm_cli.specs.declared.status.Status.TheVariants as statuses
+
+-- The input and the output of a job before it and after it. `unread` says that the input is as it was, `unwritten` that
+-- the output is.
+pub record Scene : Type 1 where
+  pub input_before : Supply
+  pub input_after : Supply
+  pub unread : Type 0
+  pub output_before : Account
+  pub output_after : Account
+  pub unwritten : Type 0
+
+abbrev pub scene : Supply → Supply → Type 0 → Account → Account → Type 0 → Scene
+scene input_before input_after unread output_before output_after unwritten = record {
+  input_before = input_before;
+  input_after = input_after;
+  unread = unread;
+  output_before = output_before;
+  output_after = output_after;
+  unwritten = unwritten;
+}
+
+-- A job came to the ending of its outcome, or a fault kept it from that. Wrong words are never told as a fault, and writing
+-- fails only where there is an output.
+abbrev pub Agrees : Result Ending Fault → Outcome → Type 0
+Agrees (Ok ending) outcome = ending ≡ outcome.ending
+Agrees (Err faults.Read) outcome = status_of outcome.ending ≢ statuses.BadWords
+Agrees (Err faults.Write) outcome = status_of outcome.ending ≡ statuses.Done
+Agrees (Err faults.Memory) outcome = status_of outcome.ending ≢ statuses.BadWords
+
+-- What the job did to its input. `unread` says that the input is as it was.
+abbrev pub Reads : Result Ending Fault → Supply → Supply → Type 0 → Type 0
+Reads (Ok (ends.Done done)) before after unread = ReadWhole before after
+Reads (Ok (ends.BadWords word)) before after unread = unread
+Reads (Ok (ends.BadFile refused)) before after unread = (after.faults ≡ before.faults) × (refused.cause ≡ NoFrame → IsAtEnd after.left)
+Reads (Ok (ends.TooLong limit)) before after unread = after.faults ≡ before.faults
+Reads (Ok (ends.TooFar mcs reach)) before after unread = ReadWhole before after
+Reads (Err faults.Read) before after unread = Rose before.faults after.faults
+Reads (Err faults.Write) before after unread = ReadWhole before after
+Reads (Err faults.Memory) before after unread = after.faults ≡ before.faults
+
+-- What the job did to its output, which is to take this text. `unwritten` says that the output is as it was.
+abbrev pub Writes : Result Ending Fault → List ℕ → Account → Account → Type 0 → Type 0
+Writes (Ok (ends.Done done)) text before after unwritten = Delivered before after text
+Writes (Ok (ends.BadWords word)) text before after unwritten = unwritten
+Writes (Ok (ends.BadFile refused)) text before after unwritten = unwritten
+Writes (Ok (ends.TooLong limit)) text before after unwritten = unwritten
+Writes (Ok (ends.TooFar mcs reach)) text before after unwritten = unwritten
+Writes (Err faults.Read) text before after unwritten = unwritten
+Writes (Err faults.Write) text before after unwritten = TookPrefix before after text
+Writes (Err faults.Memory) text before after unwritten = unwritten
+
+-- all that a job did, where this is its outcome
+pub record Does (ended : Result Ending Fault) (outcome : Outcome) (scene : Scene) : Type 0 where
+  pub agrees : Agrees ended outcome
+  pub reads : Reads ended scene.input_before scene.input_after scene.unread
+  pub writes : Writes ended outcome.output scene.output_before scene.output_after scene.unwritten
 
 -- Each state of a run of an accepted file, between its sweeps and within them, is a valid configuration: all
 -- monomers are within the walls, no two overlap, and each bond has a vector of the set.
@@ -22,34 +86,37 @@ HasValidStates order (Ok loaded) =
     (count a : ℕ) → IsValid (state_at order.seed loaded.mcs count a (begun_with loaded.world)).world
 
 abbrev pub HasValidRun : Result Job ℕ → List ℕ → Type 0
-HasValidRun (Err place) bytes = Unit {0}
+HasValidRun (Err word) bytes = Unit {0}
 HasValidRun (Ok (Run order)) bytes = HasValidStates order (verdict_of bytes)
 
--- the statuses that come from words and input alone
-abbrev pub IsJudged : Status → Type 0
-IsJudged statuses.Done = Unit {0}
-IsJudged statuses.BadWords = Unit {0}
-IsJudged statuses.BadFile = Unit {0}
-IsJudged statuses.TooLong = Unit {0}
-IsJudged statuses.TooFar = Unit {0}
-IsJudged statuses.ReadFault = ⊥
-IsJudged statuses.WriteFault = ⊥
-IsJudged statuses.Memory = ⊥
-IsJudged statuses.ReportFault = ⊥
+-- what comes only once a file was accepted
+abbrev pub IsAfterReading : Result Ending Fault → Type 0
+IsAfterReading (Ok (ends.Done done)) = Unit {0}
+IsAfterReading (Ok (ends.BadWords word)) = ⊥
+IsAfterReading (Ok (ends.BadFile refused)) = ⊥
+IsAfterReading (Ok (ends.TooLong limit)) = ⊥
+IsAfterReading (Ok (ends.TooFar mcs reach)) = Unit {0}
+IsAfterReading (Err faults.Read) = ⊥
+IsAfterReading (Err faults.Write) = Unit {0}
+IsAfterReading (Err faults.Memory) = ⊥
 
--- the text of the report for a status, where the outcome is this one
-abbrev pub report_for : Status → Outcome → List ℕ
-report_for statuses.ReadFault outcome = codes "read\n"
-report_for statuses.WriteFault outcome = codes "write\n"
-report_for statuses.Done outcome = outcome.report
-report_for statuses.BadWords outcome = outcome.report
-report_for statuses.BadFile outcome = outcome.report
-report_for statuses.TooLong outcome = outcome.report
-report_for statuses.TooFar outcome = outcome.report
-report_for statuses.Memory outcome = outcome.report
-report_for statuses.ReportFault outcome = outcome.report
+-- All that was done for a job, over the bytes that the input had left. Each state of a run that was begun is valid.
+pub record DoesOver (ended : Result Ending Fault) (job : Result Job ℕ) (scene : Scene) : Type 0 where
+  pub bytes : List ℕ
+  pub left : Holds scene.input_before.left bytes
+  pub does : Does ended (job_outcome job bytes) scene
+  pub states : IsAfterReading ended → HasValidRun job bytes
 
--- the work ended so before the report failed
-pub record EndedBefore (ending : Ending) (outcome : Outcome) (old new : Option (List ℕ)) (before now : ℕ) : Type 0 where
-  pub agrees : Agrees ending outcome
-  pub writes : Writes ending old new before now outcome.output
+-- the report was made and flushed, or a prefix of it until a call failed
+abbrev pub Reports : Result Ending Fault → Status → Account → Account → Type 0
+Reports ended status old new =
+    ((status ≡ ended_status ended) × Delivered old new (ended_report ended))
+    ⊎ ((status ≡ statuses.ReportFault) × TookPrefix old new (ended_report ended))
+
+-- How a job ended is told by its status and its report. Want of memory makes no report; `unreported` says that the
+-- report is as it was.
+abbrev pub Tells : Result Ending Fault → Status → Account → Account → Type 0 → Type 0
+Tells (Ok ending) status old new unreported = Reports (Ok ending) status old new
+Tells (Err faults.Read) status old new unreported = Reports (Err faults.Read) status old new
+Tells (Err faults.Write) status old new unreported = Reports (Err faults.Write) status old new
+Tells (Err faults.Memory) status old new unreported = (status ≡ statuses.Memory) × unreported

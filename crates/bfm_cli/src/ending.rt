@@ -1,9 +1,8 @@
-use crate::status::Status;
 use bfm_base::Refused;
 
 /// What a finished run tells of itself.
 #[derive(Clone, Copy, Debug, PartialEq, Eq)]
-pub struct RunDone {
+pub struct RunReport {
     /// The length of what was kept of the input, in bytes.
     pub kept: u64,
     /// The number of frames that were written.
@@ -16,36 +15,26 @@ pub struct RunDone {
     pub accepted: u64,
 }
 
-/// How the work of the program ended, before its report.
+/// How a job ends: what its words and the bytes of its input call for.
 #[derive(Clone, Copy, Debug, PartialEq, Eq)]
 pub enum Ending {
-    Done(RunDone),
+    Done(RunReport),
+    /// The number of the first wrong word, from 1.
     BadWords(u64),
     BadFile(Refused),
-    ReadFault,
-    WriteFault,
-    Memory,
-    TooLong,
+    /// The limit that the input goes beyond, in bytes.
+    TooLong(u64),
+    /// The last time of the run, in sweeps, and how far it might come, in lattice units.
     TooFar { mcs: u128, reach: u128 },
 }
 
-impl Ending {
-    ghost use Rattle.std.specs.Prelude.{◌≡◌};
-    ghost use Rattle.bfm_cli.specs.Ending.{status_of};
-
-    /// The status of the program where its report succeeds.
-    pub fn status(&self) -> Status
-        ensures { result ≡ status_of self.now }
-    {
-        match self {
-            Ending::Done(_) => Status::Done,
-            Ending::BadWords(_) => Status::BadWords,
-            Ending::BadFile(_) => Status::BadFile,
-            Ending::ReadFault => Status::ReadFault,
-            Ending::WriteFault => Status::WriteFault,
-            Ending::Memory => Status::Memory,
-            Ending::TooLong => Status::TooLong,
-            Ending::TooFar { .. } => Status::TooFar,
-        }
-    }
+/// What keeps a job from its ending.
+#[derive(Clone, Copy, Debug, PartialEq, Eq)]
+pub enum Fault {
+    /// A call of the input failed.
+    Read,
+    /// A call of the output failed.
+    Write,
+    /// Want of memory.
+    Memory,
 }

@@ -1,36 +1,37 @@
 //! The program `bfm_cli`: runs polymers in the bond fluctuation model, from a file on standard input
 //! to a file on standard output, and reports on standard error.
-//! It stands on `bfm_base` for the outside world, on `bfm_commands` for the reading of files and on
-//! `bfm_writer` for their writing, on `bfm_world` for the configuration and on `plain_move` for the
-//! moves.
-//! It promises in `run_tool` that the output is the kept part of the input and the groups of the
-//! run that words and input ask for, and says when each status comes.
+//! It stands on `bfm_base` for the outside world and on `bfm_session` for reading a file and running
+//! what it holds; what is here are the words of a job, its report and its status.
+//! It promises in `run_tool` that status, output and report are those that words and input call for,
+//! and says what was done where a fault kept the job from that.
 #![tactic(auto)]
 
 mod ending;
-mod input;
 mod job;
 mod report;
-mod run;
 mod status;
-mod sweep;
 #[cfg(test)]
 mod tests;
 mod tool;
+#[cfg(test)]
+mod trajectories;
 mod words;
+
+ghost use Rattle.std.specs.Prelude.{◌≡◌, ◌≢◌, ◌⊎◌, IfErr};
+ghost use Rattle.std.specs.IoError.{error_kind};
 
 use crate::status::Status;
 use crate::tool::run_tool;
 use bfm_base::{StdSink, StdSource};
 use std::env;
-use std::io::{BufWriter, ErrorKind};
+use std::io::{BufWriter, Error, ErrorKind};
 use std::process::ExitCode;
 
 /// How many bytes of output are gathered for one call of the system.
 const BUFFER: usize = 65_536;
 
 fn main(rt: HostRuntime) -> ExitCode {
-    ExitCode::from(program(&rt).code())
+    program(&rt).exit_code()
 }
 
 /// Runs the tool over the words and the standard streams of the process.
@@ -52,15 +53,28 @@ fn program(rt: &HostRuntime) -> Status {
 }
 
 /// The words after the program's name, or the status where they are not UTF-8 or memory is wanting.
-fn words_of(rt: &HostRuntime) -> Result<Vec<String>, Status> {
+fn words_of(rt: &HostRuntime) -> Result<Vec<String>, Status>
+    ensures { IfErr result (λ status. (status ≡ Status.BadWords) ⊎ (status ≡ Status.Memory)) }
+{
     let mut words = match env::args(rt) {
         Ok(words) => words,
-        Err(error) if error.kind() == ErrorKind::InvalidData => return Err(Status::BadWords),
-        Err(_) => return Err(Status::Memory),
+        Err(error) => return Err(status_without_words(&error)),
     };
     let _name = words.next();
     match words.collect(rt.alloc()) {
         Ok(words) => Ok(words),
         Err(_) => Err(Status::Memory),
+    }
+}
+
+/// The status where the words could not be had: one of them is not UTF-8, or memory is wanting.
+fn status_without_words(error: &Error) -> Status
+    ensures invalid { error_kind error.now ≡ ErrorKind.InvalidData → result ≡ Status.BadWords }
+    ensures other { error_kind error.now ≢ ErrorKind.InvalidData → result ≡ Status.Memory }
+{
+    if error.kind() == ErrorKind::InvalidData {
+        Status::BadWords
+    } else {
+        Status::Memory
     }
 }

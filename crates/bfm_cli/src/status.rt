@@ -1,3 +1,10 @@
+ghost use Rattle.std.specs.Prelude.{◌≡◌};
+ghost use Rattle.std.specs.Process.{exit_status};
+ghost use Rattle.bfm_cli.specs.Ending.{code_of, ended_status, fault_status, status_of};
+
+use crate::ending::{Ending, Fault};
+use std::process::ExitCode;
+
 /// How the program ended.
 #[derive(Clone, Copy, Debug, PartialEq, Eq)]
 pub enum Status {
@@ -21,10 +28,17 @@ pub enum Status {
 }
 
 impl Status {
-    ghost use Rattle.std.specs.Prelude.{◌≡◌};
-    ghost use Rattle.bfm_cli.specs.Ending.{code_of};
+    /// The status of a job that came to its ending or was kept from it by a fault.
+    pub fn of(ended: &Result<Ending, Fault>) -> Status
+        ensures { result ≡ ended_status ended.now }
+    {
+        match ended {
+            Ok(ending) => ending_status(ending),
+            Err(fault) => fault_status(fault),
+        }
+    }
 
-    /// The exit status of the process.
+    /// The exit status of the process as a number.
     pub fn code(&self) -> u8
         ensures { result ≡ code_of self.now }
     {
@@ -39,5 +53,34 @@ impl Status {
             Status::ReportFault => 9,
             Status::TooFar => 10,
         }
+    }
+
+    /// The exit status of the process.
+    pub fn exit_code(&self) -> ExitCode
+        ensures { exit_status result ≡ code_of self.now }
+    {
+        ExitCode::from(self.code())
+    }
+}
+
+fn ending_status(ending: &Ending) -> Status
+    ensures { result ≡ status_of ending.now }
+{
+    match ending {
+        Ending::Done(_) => Status::Done,
+        Ending::BadWords(_) => Status::BadWords,
+        Ending::BadFile(_) => Status::BadFile,
+        Ending::TooLong(_) => Status::TooLong,
+        Ending::TooFar { .. } => Status::TooFar,
+    }
+}
+
+fn fault_status(fault: &Fault) -> Status
+    ensures { result ≡ fault_status fault.now }
+{
+    match fault {
+        Fault::Read => Status::ReadFault,
+        Fault::Write => Status::WriteFault,
+        Fault::Memory => Status::Memory,
     }
 }

@@ -2,6 +2,7 @@ ghost use Rattle.std.specs.Prelude.{◌<◌};
 
 use crate::status::Status;
 use crate::tool::run_tool;
+use crate::trajectories::TRAJECTORIES;
 use bfm_base::{MemSink, MemSource, Source};
 use bond_set::BondSet;
 use std::alloc::{AllocError, Global};
@@ -213,6 +214,31 @@ fn crossed_bonds_hold_each_other(rt: HostRuntime) -> Result<(), Fail> {
     assert_eq!(rt; ended.status, Status::Done);
     assert!(rt; ended.output.bytes() == output.as_bytes());
     assert!(rt; ended.report.bytes() == report.as_bytes());
+    Ok(())
+}
+
+#[test]
+fn chains_move_as_another_hand_computed(rt: HostRuntime) -> Result<(), Fail> {
+    for trajectory in TRAJECTORIES {
+        let ended = answer_to(
+            rt.alloc(),
+            trajectory.words,
+            trajectory.input.as_bytes(),
+            1000,
+        )?;
+        let output = format!(in rt.alloc(); "{}{}", trajectory.input, trajectory.added)?;
+        assert_eq!(rt; ended.status, Status::Done, "{}", trajectory.words);
+        assert!(rt;
+            ended.output.bytes() == output.as_bytes(),
+            "{}",
+            trajectory.words
+        );
+        assert!(rt;
+            ended.report.bytes() == trajectory.report.as_bytes(),
+            "{}",
+            trajectory.words
+        );
+    }
     Ok(())
 }
 

@@ -1,29 +1,24 @@
-ghost use Rattle.std.specs.Prelude.{◌≡◌, ◌≢◌, ℕ, ◌+◌, ◌*◌, ◌^◌, ◌≤◌, ◌⊎◌, List, length, map, string_bytes, IsErr, IsOk, IfErr, IfSome, Ok};
+ghost use Rattle.std.specs.Prelude.{◌≡◌, ◌≢◌, ◌≤◌, ◌⊎◌, Result, map, string_bytes, IsErr, IfSome, Ok, true};
 ghost use Rattle.std.specs.Io.KnownBytes.{Appends, IsAtEnd};
-ghost use Rattle.bfm_base.specs.Faults.{Rose, AppendsFront, TookFront};
-ghost use Rattle.bfm_commands.specs.Verdict.{verdict_of};
+ghost use Rattle.bfm_base.specs.Faults.{Rose};
+ghost use Rattle.bfm_base.specs.declared.limits.TheConstants.{GREATEST_MCS, MOST_FRAMES, MOST_SWEEPS};
+ghost use Rattle.bfm_session.specs.Loading.{supply};
 ghost use Rattle.bfm_cli.specs.Job.{job_of, IsInRange};
-ghost use Rattle.bfm_cli.specs.Outcome.{outcome_of, job_outcome, file_outcome, run_outcome, input_limit};
-ghost use Rattle.bfm_cli.specs.Ending.{Agrees, Writes, WritesNothing, status_of, report_of};
-ghost use Rattle.bfm_cli.specs.Promise.{IsJudged, HasValidRun, HasValidStates, report_for, EndedBefore};
-ghost use Rattle.bfm_cli.specs.declared.ending.Ending.TheVariants as ends;
+ghost use Rattle.bfm_cli.specs.Ending.{status_of};
+ghost use Rattle.bfm_cli.specs.Outcome.{outcome_of, run_outcome};
+ghost use Rattle.bfm_cli.specs.Promise.{Agrees, Writes, DoesOver, IsAfterReading, Tells, HasValidRun, scene};
 ghost use Rattle.bfm_cli.specs.declared.ending.Ending.{Ending};
+ghost use Rattle.bfm_cli.specs.declared.ending.Fault.{Fault};
 
-use crate::ending::{Ending, RunDone};
-use crate::input::{InputStop, read_all};
-use crate::job::{Job, RunOrder, job_of};
-use crate::report::{INPUT_LIMIT, tell};
-use crate::run::run;
+use crate::ending::{Ending, Fault, RunReport};
+use crate::job::{Job, job_of};
+use crate::report::tell;
 use crate::status::Status;
-use bfm_base::{ReadStop, Sink, Source};
-use bfm_commands::{Loaded, read_whole};
+use bfm_base::limits::USUAL_LIMIT;
+use bfm_base::{Sink, Source};
+use bfm_commands::Loaded;
+use bfm_session::{LoadFault, RunFault, RunOrder, load, run};
 use std::alloc::Global;
-
-/// The greatest time of a frame, in sweeps.
-const GREATEST_MCS: u128 = 1_099_511_627_776;
-
-/// How far from the origin a run may bring a monomer, in lattice units.
-const GREATEST_REACH: u128 = 17_592_186_044_416;
 
 /// Does the job that the words ask for, reports on it and answers how it ended. This is the whole
 /// program but for the standard streams.
@@ -34,42 +29,34 @@ pub fn run_tool<I: Source, O: Sink, P: Sink>(
     output: &mut O,
     report: &mut P,
 ) -> Status
+    // All of it, fault or none: how the job ended over the bytes that were left, what that left of
+    // input and output, and what was told of it.
+    ensures does { (ended : Result Ending Fault) × DoesOver ended (job_of (map string_bytes words.now))
+        (scene (supply (I.left input.old) (I.faults input.old)) (supply (I.left input.new) (I.faults input.new)) (input.new ≡ input.old)
+        (O.account output.old) (O.account output.new) (output.new ≡ output.old))
+        × Tells ended result (P.account report.old) (P.account report.new) (report.new ≡ report.old) }
+
     // Without faults the status is that of the outcome, or want of memory.
-    ensures outcome { ¬ Rose (I.faults input.old) (I.faults input.new) → ¬ Rose (O.faults output.old) (O.faults output.new) → ¬ Rose (P.faults report.old) (P.faults report.new)
+    ensures outcome { ¬ Rose (I.faults input.old) (I.faults input.new) → ¬ Rose (O.account output.old).faults (O.account output.new).faults
+        → ¬ Rose (P.account report.old).faults (P.account report.new).faults
         → IfSome (I.left input.old) (λ bytes. let outcome = outcome_of (map string_bytes words.now) bytes in
-        (result ≡ outcome.status) ⊎ ((result ≡ Status.Memory) × (outcome.status ≢ Status.BadWords))) }
+        (result ≡ status_of outcome.ending) ⊎ ((result ≡ Status.Memory) × (status_of outcome.ending ≢ Status.BadWords))) }
 
-    // Done means that all of it was done: the whole input was read, the output is whole, nothing failed.
+    // Done means that all of it was done: the whole input was read, the output is whole and flushed.
     ensures done { result ≡ Status.Done → IfSome (I.left input.old) (λ bytes. let outcome = outcome_of (map string_bytes words.now) bytes in
-        (outcome.status ≡ Status.Done) × Appends (O.taken output.old) (O.taken output.new) outcome.output) }
+        (status_of outcome.ending ≡ Status.Done) × Appends (O.account output.old).taken (O.account output.new).taken outcome.output) }
     ensures done_reads_all { result ≡ Status.Done → IsAtEnd (I.left input.new) }
-    ensures done_calm { result ≡ Status.Done → (I.faults input.new ≡ I.faults input.old) × (O.faults output.new ≡ O.faults output.old) × (P.faults report.new ≡ P.faults report.old) }
+    ensures done_flushes { result ≡ Status.Done → (O.account output.new).flushed ≡ true }
 
-    ensures states { result ≡ Status.Done → IfSome (I.left input.old) (λ bytes. HasValidRun (job_of (map string_bytes words.now)) bytes) }
+    // Each state of a run that was begun is a valid world.
+    ensures states { (result ≡ Status.Done) ⊎ (result ≡ Status.WriteFault) → IfSome (I.left input.old) (λ bytes. HasValidRun (job_of (map string_bytes words.now)) bytes) }
 
-    // What a refusal leaves alone.
-    ensures unwritten { result ≢ Status.Done → result ≢ Status.WriteFault → result ≢ Status.ReportFault → output.new ≡ output.old }
-    ensures unread { IsErr (job_of (map string_bytes words.now)) → input.new ≡ input.old }
-    ensures unreported { result ≡ Status.Memory → report.new ≡ report.old }
-
-    // What the report says.
-    ensures told { result ≢ Status.Memory → result ≢ Status.ReportFault → IfSome (I.left input.old) (λ bytes.
-        Appends (P.taken report.old) (P.taken report.new) (report_for result (outcome_of (map string_bytes words.now) bytes))) }
-
-    // When each status comes.
-    ensures bad_words { IsErr (job_of (map string_bytes words.now)) → (result ≡ Status.BadWords) ⊎ (result ≡ Status.ReportFault) }
-    ensures judged { IsJudged result → IfSome (I.left input.old) (λ bytes. (outcome_of (map string_bytes words.now) bytes).status ≡ result) }
-    ensures read_fault { result ≡ Status.ReadFault → Rose (I.faults input.old) (I.faults input.new) }
-    ensures write_fault { result ≡ Status.WriteFault → IfSome (I.left input.old) (λ bytes. let outcome = outcome_of (map string_bytes words.now) bytes in
-        (outcome.status ≡ Status.Done) × TookFront (O.taken output.old) (O.taken output.new) (O.faults output.old) (O.faults output.new) outcome.output) }
-    ensures write_fault_rose { result ≡ Status.WriteFault → Rose (O.faults output.old) (O.faults output.new) }
-    ensures report_fault { result ≡ Status.ReportFault → Rose (P.faults report.old) (P.faults report.new) }
-    ensures before_report_fault { result ≡ Status.ReportFault → (ending : Ending) × (ending ≢ ends.Memory)
-        × IfSome (I.left input.old) (λ bytes. EndedBefore ending (outcome_of (map string_bytes words.now) bytes) (O.taken output.old) (O.taken output.new) (O.faults output.old) (O.faults output.new))
-        × AppendsFront (P.taken report.old) (P.taken report.new) (report_of ending) }
+    // Wrong words are told as such, whatever the input holds.
+    ensures bad_words { IsErr (job_of (map string_bytes words.now)) → ((result ≡ Status.BadWords) ⊎ (result ≡ Status.ReportFault))
+        × (input.new ≡ input.old) × (output.new ≡ output.old) }
 {
-    let ending = work(alloc, words, input, output);
-    tell(&ending, report)
+    let ended = work(alloc, words, input, output);
+    tell(&ended, report)
 }
 
 /// Does the job that the words ask for.
@@ -78,119 +65,80 @@ fn work<I: Source, O: Sink>(
     words: &[String],
     input: &mut I,
     output: &mut O,
-) -> Ending
-    ensures words { IfErr (job_of (map string_bytes words.now)) (λ place. (result ≡ ends.BadWords place) × (input.new ≡ input.old)) }
-    ensures memory { result ≡ ends.Memory → IsOk (job_of (map string_bytes words.now)) }
-    ensures agrees { IfSome (I.left input.old) (λ bytes. Agrees result (outcome_of (map string_bytes words.now) bytes)) }
-    ensures writes { IfSome (I.left input.old) (λ bytes. Writes result (O.taken output.old) (O.taken output.new) (O.faults output.old) (O.faults output.new)
-        (outcome_of (map string_bytes words.now) bytes).output) }
-    ensures unwritten { WritesNothing result → output.new ≡ output.old }
-    ensures done { status_of result ≡ Status.Done → IsAtEnd (I.left input.new) × (O.faults output.new ≡ O.faults output.old) }
-    ensures states { status_of result ≡ Status.Done → IfSome (I.left input.old) (λ bytes. HasValidRun (job_of (map string_bytes words.now)) bytes) }
-    ensures read_fault { result ≡ ends.ReadFault → Rose (I.faults input.old) (I.faults input.new) }
-    ensures read_calm { result ≢ ends.ReadFault → I.faults input.new ≡ I.faults input.old }
-    ensures write_fault { result ≡ ends.WriteFault → Rose (O.faults output.old) (O.faults output.new) }
+) -> Result<Ending, Fault>
+    ensures { DoesOver result (job_of (map string_bytes words.now))
+        (scene (supply (I.left input.old) (I.faults input.old)) (supply (I.left input.new) (I.faults input.new)) (input.new ≡ input.old)
+        (O.account output.old) (O.account output.new) (output.new ≡ output.old)) }
 {
     match job_of(words) {
         Ok(job) => run_job(alloc, &job, input, output),
-        Err(place) => Ending::BadWords(place),
+        Err(word) => Ok(Ending::BadWords(word)),
     }
 }
 
 /// Does a job.
-fn run_job<I: Source, O: Sink>(alloc: Global, job: &Job, input: &mut I, output: &mut O) -> Ending
+fn run_job<I: Source, O: Sink>(
+    alloc: Global,
+    job: &Job,
+    input: &mut I,
+    output: &mut O,
+) -> Result<Ending, Fault>
     requires { IsInRange job.now }
-    ensures agrees { IfSome (I.left input.old) (λ bytes. Agrees result (job_outcome (Ok job.now) bytes)) }
-    ensures writes { IfSome (I.left input.old) (λ bytes. Writes result (O.taken output.old) (O.taken output.new) (O.faults output.old) (O.faults output.new)
-        (job_outcome (Ok job.now) bytes).output) }
-    ensures unwritten { WritesNothing result → output.new ≡ output.old }
-    ensures done { status_of result ≡ Status.Done → IsAtEnd (I.left input.new) × (O.faults output.new ≡ O.faults output.old) }
-    ensures states { status_of result ≡ Status.Done → IfSome (I.left input.old) (λ bytes. HasValidRun (Ok job.now) bytes) }
-    ensures read_fault { result ≡ ends.ReadFault → Rose (I.faults input.old) (I.faults input.new) }
-    ensures read_calm { result ≢ ends.ReadFault → I.faults input.new ≡ I.faults input.old }
-    ensures write_fault { result ≡ ends.WriteFault → Rose (O.faults output.old) (O.faults output.new) }
+    ensures { DoesOver result (Ok job.now)
+        (scene (supply (I.left input.old) (I.faults input.old)) (supply (I.left input.new) (I.faults input.new)) (input.new ≡ input.old)
+        (O.account output.old) (O.account output.new) (output.new ≡ output.old)) }
 {
     match job {
-        Job::Run(order) => run_source(alloc, order, input, output),
+        Job::Run(order) => run_input(alloc, order, input, output),
     }
 }
 
-/// Reads a source to its end, and runs what it gives.
-fn run_source<I: Source, O: Sink>(
+/// Reads an input to its end, and runs what it holds.
+fn run_input<I: Source, O: Sink>(
     alloc: Global,
     order: &RunOrder,
     input: &mut I,
     output: &mut O,
-) -> Ending
-    requires frames { order.now.frames ≤ 2 ^ 20 }
-    requires every { order.now.every ≤ 2 ^ 30 }
-    ensures agrees { IfSome (I.left input.old) (λ bytes. Agrees result (job_outcome (Ok (Job.Run order.now)) bytes)) }
-    ensures writes { IfSome (I.left input.old) (λ bytes. Writes result (O.taken output.old) (O.taken output.new) (O.faults output.old) (O.faults output.new)
-        (job_outcome (Ok (Job.Run order.now)) bytes).output) }
-    ensures unwritten { WritesNothing result → output.new ≡ output.old }
-    ensures done { status_of result ≡ Status.Done → IsAtEnd (I.left input.new) × (O.faults output.new ≡ O.faults output.old) }
-    ensures states { status_of result ≡ Status.Done → IfSome (I.left input.old) (λ bytes. HasValidStates order.now (verdict_of bytes)) }
-    ensures read_fault { result ≡ ends.ReadFault → Rose (I.faults input.old) (I.faults input.new) }
-    ensures read_calm { result ≢ ends.ReadFault → I.faults input.new ≡ I.faults input.old }
-    ensures write_fault { result ≡ ends.WriteFault → Rose (O.faults output.old) (O.faults output.new) }
+) -> Result<Ending, Fault>
+    requires frames { order.now.frames ≤ MOST_FRAMES }
+    requires every { order.now.every ≤ MOST_SWEEPS }
+    ensures { DoesOver result (Ok (Job.Run order.now))
+        (scene (supply (I.left input.old) (I.faults input.old)) (supply (I.left input.new) (I.faults input.new)) (input.new ≡ input.old)
+        (O.account output.old) (O.account output.new) (output.new ≡ output.old)) }
 {
-    match read_all(alloc, input, INPUT_LIMIT as usize) {
-        Ok(bytes) => run_bytes(alloc, &bytes, order, output),
-        Err(InputStop::TooLong) => Ending::TooLong,
-        Err(InputStop::ReadFault) => Ending::ReadFault,
-        Err(InputStop::Memory) => Ending::Memory,
-    }
-}
-
-/// Does the job over a file that was read whole.
-fn run_bytes<O: Sink>(alloc: Global, bytes: &[u8], order: &RunOrder, output: &mut O) -> Ending
-    requires frames { order.now.frames ≤ 2 ^ 20 }
-    requires every { order.now.every ≤ 2 ^ 30 }
-    requires limit { length bytes.now ≤ input_limit }
-    ensures agrees { Agrees result (file_outcome order.now bytes.now (verdict_of bytes.now)) }
-    ensures writes { Writes result (O.taken output.old) (O.taken output.new) (O.faults output.old) (O.faults output.new) (file_outcome order.now bytes.now (verdict_of bytes.now)).output }
-    ensures unwritten { WritesNothing result → output.new ≡ output.old }
-    ensures source { result ≢ ends.ReadFault }
-    ensures done { status_of result ≡ Status.Done → O.faults output.new ≡ O.faults output.old }
-    ensures states { status_of result ≡ Status.Done → HasValidStates order.now (verdict_of bytes.now) }
-    ensures write_fault { result ≡ ends.WriteFault → Rose (O.faults output.old) (O.faults output.new) }
-{
-    match read_whole(alloc, bytes) {
-        Ok(loaded) => run_file(loaded, bytes, order, output),
-        Err(ReadStop::Refused(refused)) => Ending::BadFile(refused),
-        Err(ReadStop::Memory) => Ending::Memory,
+    match load(alloc, input, USUAL_LIMIT) {
+        Ok((loaded, kept)) => run_loaded(loaded, &kept, order, output),
+        Err(LoadFault::Refused(refused)) => Ok(Ending::BadFile(refused)),
+        Err(LoadFault::TooLong) => Ok(Ending::TooLong(USUAL_LIMIT)),
+        Err(LoadFault::ReadFault) => Err(Fault::Read),
+        Err(LoadFault::Memory) => Err(Fault::Memory),
     }
 }
 
 /// Runs a file that was accepted.
-fn run_file<O: Sink>(loaded: Loaded, bytes: &[u8], order: &RunOrder, output: &mut O) -> Ending
-    requires frames { order.now.frames ≤ 2 ^ 20 }
-    requires every { order.now.every ≤ 2 ^ 30 }
-    requires kept { loaded.kept ≤ length bytes.now }
-    requires mcs { loaded.mcs ≤ 2 ^ 40 }
-    ensures agrees { Agrees result (run_outcome loaded order.now bytes.now) }
-    ensures writes { Writes result (O.taken output.old) (O.taken output.new) (O.faults output.old) (O.faults output.new) (run_outcome loaded order.now bytes.now).output }
-    ensures unwritten { WritesNothing result → output.new ≡ output.old }
-    ensures source { result ≢ ends.ReadFault }
-    ensures done { status_of result ≡ Status.Done → O.faults output.new ≡ O.faults output.old }
-    ensures write_fault { result ≡ ends.WriteFault → Rose (O.faults output.old) (O.faults output.new) }
+fn run_loaded<O: Sink>(
+    loaded: Loaded,
+    kept: &[u8],
+    order: &RunOrder,
+    output: &mut O,
+) -> Result<Ending, Fault>
+    requires frames { order.now.frames ≤ MOST_FRAMES }
+    requires every { order.now.every ≤ MOST_SWEEPS }
+    requires mcs { loaded.mcs ≤ GREATEST_MCS }
+    ensures agrees { Agrees result (run_outcome loaded order.now kept.now) }
+    ensures read { IsAfterReading result }
+    ensures writes { Writes result (run_outcome loaded order.now kept.now).output (O.account output.old) (O.account output.new) (output.new ≡ output.old) }
 {
-    let sweeps = order.frames * order.every;
-    let last = u128::from(loaded.mcs) + u128::from(sweeps);
-    let monomers = u128::from(loaded.world.len());
-    let reach = u128::from(loaded.world.reach().unsigned_abs()) + monomers * u128::from(sweeps);
-    if last > GREATEST_MCS || reach > GREATEST_REACH {
-        return Ending::TooFar { mcs: last, reach };
-    }
-    let kept = &bytes[..loaded.kept as usize];
-    match run(loaded.world, loaded.mcs, kept, order, output) {
-        Ok(accepted) => Ending::Done(RunDone {
-            kept: loaded.kept,
+    let (kept_length, skipped) = (loaded.kept, loaded.skipped);
+    match run(loaded, kept, order, output) {
+        Ok(done) => Ok(Ending::Done(RunReport {
+            kept: kept_length,
             frames: order.frames,
-            mcs: loaded.mcs + sweeps,
-            skipped: loaded.skipped,
-            accepted,
-        }),
-        Err(_) => Ending::WriteFault,
+            mcs: done.mcs,
+            skipped,
+            accepted: done.accepted,
+        })),
+        Err(RunFault::TooFar { mcs, reach }) => Ok(Ending::TooFar { mcs, reach }),
+        Err(RunFault::WriteFault) => Err(Fault::Write),
     }
 }

@@ -1,45 +1,101 @@
-ghost use Rattle.std.specs.Prelude.{◌≡◌, ℕ, ◌+◌, ◌*◌, ◌^◌, ◌≤◌};
-ghost use Rattle.rand_pcg.specs.Pcg.{pcg32};
-ghost use Rattle.bfm_cli.specs.RandomWords.{generator_after};
+ghost use Rattle.std.specs.Prelude.{◌≡◌, ◌-◌, ◌^◌, ◌<◌, [], length, map, string_bytes, IfSome};
+ghost use Rattle.std.specs.Char.{is_ascii_digit};
+ghost use Rattle.std.specs.List.{list_all};
+ghost use Rattle.bfm_lexer.specs.Numbers.{natural_of};
+ghost use Rattle.bfm_cli.specs.Keys.{key_of};
+ghost use Rattle.bfm_cli.specs.Words.{first_wrong, given, given_by, is_first, is_right, number_for, within};
 
-use rand_core::utils::NextWord;
-use rand_pcg::Lcg64Xsh32;
-use std::marker::Model;
-
-/// The random words of a seed, from some place on.
-#[derive(Drop)]
-pub struct SweepWords {
-    generator: Lcg64Xsh32,
+/// A key of a job, whose word is `key=number`: its name, the range of its number, and the number
+/// that it has where no word gives one.
+#[derive(Clone, Copy)]
+pub struct Key {
+    pub name: &'static str,
+    pub least: u64,
+    pub greatest: u64,
+    pub usual: Option<u64>,
 }
 
-impl Model for SweepWords {
-    ghost use Rattle.rand_pcg.specs.Lcg.{Lcg};
-
-    ghost Value = { Lcg };
-
-    ghost view = { λ w. w.generator };
+/// A whole number in decimal digits, where it is at most 2^64 - 1.
+fn whole_number(digits: &str) -> Option<u64>
+    ensures { result ≡ within 0 (2 ^ 64 - 1) (natural_of digits.now) }
+{
+    if !are_digits(digits.as_bytes()) {
+        return None;
+    }
+    digits.parse::<u64>().ok()
 }
 
-/// The number of the stream from which all words of this program come.
-const STREAM: u64 = 54;
+fn are_digits(text: &[u8]) -> bool
+    ensures { result ≡ list_all is_ascii_digit text.now }
+{
+    text.iter().all(|byte| byte.is_ascii_digit())
+}
 
-impl SweepWords {
-    /// The words of sweep `t` in a world of `n` monomers: three for each attempt.
-    #[tactic(auto, unfolding(crate::specs::RandomWords::generator_after))]
-    pub fn at(seed: u64, n: u32, t: u64) -> SweepWords
-        requires monomers { n ≤ 2 ^ 18 }
-        requires sweep { t ≤ 2 ^ 40 }
-        ensures { result ≡ generator_after seed (3 * (n * t)) }
-    {
-        let mut generator = Lcg64Xsh32::new(seed, STREAM);
-        generator.advance(3 * (u64::from(n) * t));
-        SweepWords { generator }
+/// The number that a word gives a key.
+fn given(key: &Key, word: &str) -> Option<u64>
+    ensures { result ≡ given (key_of key.now) word.now }
+{
+    let (name, digits) = word.split_once('=')?;
+    if name != key.name {
+        return None;
     }
+    let (least, greatest) = (key.least, key.greatest);
+    let number = whole_number(digits)?;
+    if least <= number && number <= greatest {
+        Some(number)
+    } else {
+        None
+    }
+}
 
-    /// The next word.
-    pub fn next(&mut self) -> u32
-        ensures { (result, self.new) ≡ pcg32 self.old }
-    {
-        self.generator.next_word()
+/// The number that the first of the words which give one gives a key.
+fn given_by(key: &Key, words: &[String]) -> Option<u64>
+    ensures { result ≡ given_by (key_of key.now) (map string_bytes words.now) }
+{
+    for word in words {
+        let number = given(key, word.as_str());
+        if number.is_some() {
+            return number;
+        }
     }
+    None
+}
+
+/// Whether a word gives one of the keys a number that no word before it gives.
+fn is_right(keys: &[Key], before: &[String], word: &str) -> bool
+    ensures { result ≡ is_right (map key_of keys.now) (map string_bytes before.now) word.now }
+{
+    for key in keys {
+        if is_first(key, before, word) {
+            return true;
+        }
+    }
+    false
+}
+
+/// Whether a word gives a key a number that no word before it gives.
+fn is_first(key: &Key, before: &[String], word: &str) -> bool
+    ensures { result ≡ is_first (map string_bytes before.now) word.now (key_of key.now) }
+{
+    given(key, word).is_some() && given_by(key, before).is_none()
+}
+
+/// The first of the words that is not right for these keys, by how many words stand before it.
+pub fn first_wrong(keys: &[Key], words: &[String]) -> Option<u64>
+    ensures place { result ≡ first_wrong (map key_of keys.now) [] (map string_bytes words.now) }
+    ensures within { IfSome result (λ before. before < length words.now) }
+{
+    for (before, word) in words.iter().enumerate() {
+        if !is_right(keys, &words[..before], word.as_str()) {
+            return Some(before as u64);
+        }
+    }
+    None
+}
+
+/// The number of a key: a word gives it, or it is the usual one.
+pub fn number_for(key: &Key, words: &[String]) -> Option<u64>
+    ensures { result ≡ number_for (key_of key.now) (map string_bytes words.now) }
+{
+    given_by(key, words).or(key.usual)
 }
