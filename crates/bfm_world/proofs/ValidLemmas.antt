@@ -153,3 +153,18 @@ IsSound-begun shape set n box bond_set symmetric some few = record {
   bonds = AreBonds-none n;
   vectors = λ i j l m h. absurd (omega arith);
 }
+
+-- a sound world whose monomers lose their positions
+pub IsSound-unplaced : (n : ℕ) (w : Configuration) → IsSound n w → IsSound n (record w { positions = [] })
+IsSound-unplaced n w s = record {
+  box = s.box;
+  set = s.set;
+  symmetric = s.symmetric;
+  some = s.some;
+  few = s.few;
+  room = omega arith;
+  inside = λ k d l. absurd (omega arith);
+  apart = λ i j d l m. absurd (omega arith);
+  bonds = s.bonds;
+  vectors = λ i j l m h. absurd (omega arith);
+}

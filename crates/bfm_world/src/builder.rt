@@ -4,7 +4,7 @@ ghost use Rattle.bfm_base.specs.Place.{extent_of};
 ghost use Rattle.bfm_geom.specs.Difference.{IsBox};
 ghost use Rattle.bond_set.specs.BondSet.{IsBondSet, IsSymmetric};
 ghost use Rattle.bfm_world.specs.Bonds.{are_bonded, with_bond};
-ghost use Rattle.bfm_world.specs.Configuration.{IsSound, IsValid};
+ghost use Rattle.bfm_world.specs.Configuration.{IsSound, IsValid, reach_of};
 ghost use Rattle.bfm_world.specs.Draft.{begun, with_positions, with_bonds, place_refusal, may_join, join_answer, IsJoined};
 
 use crate::bonds::Bonds;
@@ -82,6 +82,14 @@ impl WorldBuilder {
         self.parts.positions.len()
     }
 
+    /// The positions of the monomers that have been placed, in order.
+    pub fn positions(&self) -> &[P3]
+        ensures positions { result.now ≡ self.now.world.positions }
+        ensures reach { reach_of result.now ≤ WORLD_REACH }
+    {
+        &self.parts.positions
+    }
+
     pub fn shape(&self) -> Shape
         ensures shape { result ≡ self.now.world.shape }
         ensures limits { IsBox result }
@@ -112,6 +120,15 @@ impl WorldBuilder {
         ensures { result ≡ are_bonded self.now.world.bonds i j }
     {
         self.parts.bonds.are_bonded(i, j)
+    }
+
+    /// Drops every position and keeps all else, so that the monomers can be placed anew. It takes no
+    /// memory.
+    pub fn begin(&mut self)
+        ensures begun { self.new ≡ with_positions self.old [] }
+        ensures sound { IsSound self.new.count self.new.world }
+    {
+        self.parts.positions.clear();
     }
 
     /// Gives the next monomer its position. It is refused with `Outside` beyond a wall, else with

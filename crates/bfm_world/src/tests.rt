@@ -46,6 +46,25 @@ fn places_are_refused_beyond_walls_and_where_monomers_overlap(rt: HostRuntime) -
     Ok(())
 }
 
+#[test]
+fn a_draft_that_begins_again_keeps_all_but_positions(rt: HostRuntime) -> Result<(), Fail> {
+    let mut builder = begun(rt.alloc(), 2)?;
+    assert!(rt; builder.join(0, 1) == Ok(true));
+    assert!(rt; builder.place(P3 { x: 0, y: 3, z: 0 }).is_ok());
+    assert!(rt; builder.place(P3 { x: 2, y: 3, z: 0 }).is_ok());
+    builder.begin();
+    assert!(rt; builder.positions().is_empty());
+    assert!(rt; builder.count() == 2 && builder.bonded(0, 1));
+    // Where the first monomer stood there is room again, and the bond asks for what it asked before.
+    assert!(rt; builder.place(P3 { x: 1, y: 3, z: 0 }).is_ok());
+    assert!(rt; builder.place(P3 { x: 5, y: 3, z: 0 }) == Err(Cause::BadBond));
+    assert!(rt; builder.place(P3 { x: 4, y: 3, z: 0 }).is_ok());
+    assert!(rt;
+        builder.positions() == [P3 { x: 1, y: 3, z: 0 }, P3 { x: 4, y: 3, z: 0 }].as_slice()
+    );
+    Ok(())
+}
+
 // What placing a monomer that is bonded to one at (0, 6, 0) answers: the least cause, which in most
 // rows is not the only one. A difference is wrapped along x and z alone.
 #[rattlefmt::skip]

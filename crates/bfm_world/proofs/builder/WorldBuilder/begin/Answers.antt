@@ -1,0 +1,14 @@
+use Rattle.std.proofs.Common.{arith}
+use Rattle.bfm_world.proofs.ValidLemmas.{IsSound-unplaced}
+use Rattle.bfm_world.proofs.builder.WorldBuilder.begin.Goals as goal
+
+pub invariant_of-self : goal.invariant_of-self
+invariant_of-self c =
+    rw c.clear.ensures.items (
+      IsSound-unplaced c.self.inside.count _ c.self.invariant.0,
+      omega arith,
+      omega (arith, c.self.invariant.2, c.clear.ensures.capacity),
+    )
+
+pub returns-clause-sound : goal.returns-clause-sound
+returns-clause-sound c = (invariant_of-self c).0
