@@ -1,4 +1,5 @@
 pub mod BondLemmas
 pub mod ReachLemmas
+pub mod SiteLemmas
 pub mod ValidLemmas
 pub mod VectorLemmas

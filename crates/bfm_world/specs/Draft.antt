@@ -6,6 +6,8 @@ use Rattle.bfm_base.specs.declared.cause.Cause.{Cause}
 use Rattle.bfm_base.specs.declared.cause.Cause.TheVariants.{Outside, Overlap, BadMonomer, BadBond, TooManyBonds}
 use Rattle.bfm_world.specs.Bonds.{neighbours_of, are_bonded, is_full, Joins}
 use Rattle.bfm_geom.specs.Walls.{is_within_walls}
+use Rattle.packed_lattice.specs.Sites.{Sites}
+use Rattle.packed_lattice.specs.Cover.{Covers}
 use Rattle.bfm_world.specs.Configuration.{Configuration, is_clear, may_reach, keeps_bonds}
 
 -- what there is of the world so far, and the number of monomers that it will have
@@ -24,6 +26,11 @@ with_positions draft positions = record draft { world = record draft.world { pos
 -- a draft with these bonds
 abbrev pub with_bonds : Draft → List (List ℕ) → Draft
 with_bonds draft bonds = record draft { world = record draft.world { bonds = bonds } }
+
+-- the sites of the box, where those are taken that the placed monomers cover, and no others
+pub record IsFilled (w : Configuration) (sites : Sites) : Type 0 where
+  pub shape : sites.shape ≡ w.shape
+  pub taken : Covers w.positions sites
 
 -- why the next monomer may not stand at p, if it may not
 abbrev pub place_refusal : Configuration → P3 → Option Cause

@@ -1,19 +1,22 @@
-ghost use Rattle.std.specs.Prelude.{◌≡◌, ◌≢◌, ◌↔◌, ℕ, ◌<◌, ◌≤◌, true, [], ◌∷◌, ◌++◌, length, nat_eq, slice_get, Ok, IfOk, OnOk, OnErr, MatchOption};
+ghost use Rattle.std.specs.Prelude.{◌≡◌, ◌≢◌, ◌↔◌, ℕ, ◌<◌, ◌≤◌, true, false, [], ◌∷◌, ◌++◌, length, nat_eq, slice_get, All, AllPairs, Ok, IfOk, OnOk, OnErr, MatchOption};
 ghost use Rattle.std.specs.List.{Contains, IsDistinct};
 ghost use Rattle.bfm_base.specs.Place.{extent_of};
-ghost use Rattle.bfm_geom.specs.Difference.{IsBox};
+ghost use Rattle.bfm_geom.specs.Difference.{IsBox, overlaps};
+ghost use Rattle.bfm_geom.specs.Walls.{is_within_walls};
 ghost use Rattle.bond_set.specs.BondSet.{IsBondSet, IsSymmetric};
 ghost use Rattle.bfm_world.specs.Bonds.{are_bonded, with_bond};
-ghost use Rattle.bfm_world.specs.Configuration.{IsSound, IsValid, reach_of};
+ghost use Rattle.packed_lattice.specs.Cover.{Covers};
+ghost use Rattle.bfm_world.specs.Configuration.{IsSound, IsValid, is_clear, reach_of};
 ghost use Rattle.bfm_world.specs.Draft.{begun, with_positions, with_bonds, place_refusal, may_join, join_answer, IsJoined};
 
 use crate::bonds::Bonds;
 use crate::parts::Parts;
-use crate::room::{is_clear, is_within_walls, keeps_bonds, may_reach, position_in};
+use crate::room::{is_within_walls, keeps_bonds, may_reach, position_in};
 use crate::world::World;
 use bfm_base::limits::{MOST_BONDS, MOST_MONOMERS, WORLD_REACH};
 use bfm_base::{Cause, P3, Shape};
 use bond_set::BondSet;
+use packed_lattice::Lattice;
 use std::alloc::{AllocError, Global};
 use std::marker::Model;
 
@@ -23,13 +26,15 @@ use std::marker::Model;
 pub struct WorldBuilder {
     parts: Parts,
     count: u32,
+    // The sites that the placed monomers fill: a place is judged by those of its own cube.
+    lattice: Lattice,
 }
 
 impl Model for WorldBuilder {
     ghost use Rattle.std.specs.Prelude.{◌≤◌, vec_capacity};
     ghost use Rattle.bfm_base.specs.declared.limits.TheConstants.{WORLD_REACH};
     ghost use Rattle.bfm_world.specs.Configuration.{configuration_of, reach_of, IsSound};
-    ghost use Rattle.bfm_world.specs.Draft.{Draft};
+    ghost use Rattle.bfm_world.specs.Draft.{Draft, IsFilled};
 
     ghost Value = { Draft };
 
@@ -38,7 +43,8 @@ impl Model for WorldBuilder {
     ghost invariant = { λ b.
         IsSound b.count (configuration_of b.parts)
         × (reach_of b.parts.positions.items ≤ WORLD_REACH)
-        × (b.count ≤ vec_capacity b.parts.positions) };
+        × (b.count ≤ vec_capacity b.parts.positions)
+        × IsFilled (configuration_of b.parts) b.lattice };
 }
 
 impl WorldBuilder {
@@ -64,6 +70,7 @@ impl WorldBuilder {
                 bonds: Bonds::new(alloc, n)?,
             },
             count: n,
+            lattice: Lattice::new(alloc, shape)?,
         })
     }
 
@@ -123,17 +130,19 @@ impl WorldBuilder {
     }
 
     /// Drops every position and keeps all else, so that the monomers can be placed anew. It takes no
-    /// memory.
+    /// memory, and costs as much as there are monomers placed, however large the box is.
     pub fn begin(&mut self)
         ensures begun { self.new ≡ with_positions self.old [] }
         ensures sound { IsSound self.new.count self.new.world }
     {
+        lift_all(&mut self.lattice, &self.parts.positions);
         self.parts.positions.clear();
     }
 
     /// Gives the next monomer its position. It is refused with `Outside` beyond a wall, else with
     /// `Overlap` where it would overlap a monomer that is placed, else with `BadBond` where a bond
-    /// to a monomer that is placed would have no vector of the set; nothing changes then.
+    /// to a monomer that is placed would have no vector of the set; nothing changes then. It costs the
+    /// same however many monomers are placed.
     pub fn place(&mut self, p: P3) -> Result<(), Cause>
         requires room { length self.old.world.positions < self.old.count }
         requires reach { extent_of p ≤ WORLD_REACH }
@@ -147,7 +156,7 @@ impl WorldBuilder {
         if !is_within_walls(&self.parts.shape, p) {
             return Err(Cause::Outside);
         }
-        if !is_clear(&self.parts.shape, &self.parts.positions, p) {
+        if !self.is_clear(p) {
             return Err(Cause::Overlap);
         }
         let neighbours = self.parts.bonds.neighbours(next);
@@ -161,7 +170,17 @@ impl WorldBuilder {
             return Err(Cause::BadBond);
         }
         self.parts.positions.push(p).unwrap();
+        self.lattice.place(p);
         Ok(())
+    }
+
+    /// Whether a monomer within the walls overlaps none that is placed.
+    fn is_clear(&self, p: P3) -> bool
+        requires reach { extent_of p ≤ WORLD_REACH }
+        requires inside { is_within_walls self.now.world.shape p ≡ true }
+        ensures { result ≡ is_clear self.now.world.shape self.now.world.positions p }
+    {
+        self.lattice.cube_free(p)
     }
 
     /// Joins two monomers by a bond, and answers whether it is a new one. It is refused with
@@ -217,5 +236,20 @@ impl WorldBuilder {
     {
         let WorldBuilder { parts, .. } = self;
         World::of_parts(parts)
+    }
+}
+
+/// Frees the cubes of these monomers, which are all that there are.
+fn lift_all(lattice: &mut Lattice, positions: &[P3])
+    requires box_limits { IsBox lattice.old.shape }
+    requires reach { reach_of positions.now ≤ WORLD_REACH }
+    requires inside { All (λ p. is_within_walls lattice.old.shape p ≡ true) positions.now }
+    requires apart { AllPairs (λ p q. overlaps lattice.old.shape p q ≡ false) positions.now }
+    requires taken { Covers positions.now lattice.old }
+    ensures shape { lattice.new.shape ≡ lattice.old.shape }
+    ensures none { Covers [] lattice.new }
+{
+    for p in positions {
+        lattice.lift(*p);
     }
 }

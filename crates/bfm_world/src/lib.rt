@@ -1,6 +1,6 @@
 //! Valid worlds of polymers: built monomer by monomer and bond by bond, changed by legal local
 //! moves alone, and moved by whatever keeps the contract of an engine.
-//! It stands on `bfm_geom`, `bond_set` and `arrayvec`. It promises that every `World` is valid in
+//! It stands on `bfm_geom`, `bond_set`, `packed_lattice` and `arrayvec`. It promises that every `World` is valid in
 //! every state (no monomer beyond a wall, no two overlapping, each bond with a vector of the set),
 //! that a builder refuses exactly what would break that, and, by the trait `Engine`, that an attempt
 //! makes its move exactly where it is legal.

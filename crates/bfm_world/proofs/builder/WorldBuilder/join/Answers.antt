@@ -17,6 +17,7 @@ invariant_of-self c =
       IsSound-joined c.self.inside.count w c.args.i c.args.j c.self.invariant.0 c.if-i-j.false (omega arith) (omega arith) new may first second,
       c.self.invariant.1,
       c.self.invariant.2,
+      record { shape = c.self.invariant.3.shape; taken = c.self.invariant.3.taken },
     )
 
 pub returns-clause-sound : goal.returns-clause-sound

@@ -1,4 +1,5 @@
 use Rattle.std.proofs.Common.{rules, arith, ◌≡◌, []}
+use Rattle.packed_lattice.proofs.CoverLemmas.{Covers-empty}
 use Rattle.bfm_world.proofs.ValidLemmas.{IsSound-begun}
 use Rattle.bfm_world.proofs.builder.WorldBuilder.new.Goals as goal
 
@@ -9,4 +10,5 @@ invariant_of-result c =
       IsSound-begun c.args.shape c.args.set c.args.n c.requires.shape c.requires.set c.requires.finished c.requires.some c.requires.few,
       omega arith,
       search rules,
+      record { shape = c.in_ok-new-2.ensures.shape; taken = Covers-empty c.in_ok-new-2.field-0 c.in_ok-new-2.ensures.free },
     )
