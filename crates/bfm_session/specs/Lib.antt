@@ -1,2 +1,4 @@
+pub mod Analysis
+pub mod CrossingText
 pub mod Loading
 pub mod Running

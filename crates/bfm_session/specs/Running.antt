@@ -3,6 +3,8 @@ use Rattle.std.specs.Prelude.{◌≡◌, ℕ, zero, suc, ◌+◌, ◌*◌, Bool,
 use Rattle.bfm_base.specs.Account.{Account, Delivered, TookPrefix}
 use Rattle.bfm_base.specs.declared.limits.TheConstants.{GREATEST_MCS, RUN_REACH}
 use Rattle.bfm_world.specs.Configuration.{reach_of}
+use Rattle.crossing_check.specs.Verdict.{IsVerdict}
+use Rattle.crossing_check.specs.declared.judgement.SetVerdict.{SetVerdict}
 use Rattle.bfm_commands.specs.declared.loaded.Loaded.{Loaded}
 use Rattle.bfm_writer.specs.Text.{group_text}
 use Rattle.sweep_run.specs.Sweep.{Progress, after_sweeps, begun_with}
@@ -34,18 +36,21 @@ is_too_far loaded order = nat_lt GREATEST_MCS (last_mcs loaded order) || nat_lt 
 abbrev pub run_text : Loaded → RunOrder → List ℕ → List ℕ
 run_text loaded order kept = kept ++ groups_text order.seed order.every loaded.mcs order.frames (begun_with loaded.world)
 
-abbrev pub run_done : Loaded → RunOrder → RunDone
-run_done loaded order = record {
+-- what a run tells of itself, where this is the verdict on the world's set
+abbrev pub run_done : Loaded → RunOrder → SetVerdict → RunDone
+run_done loaded order verdict = record {
   mcs = last_mcs loaded order;
   accepted = (after_sweeps order.seed loaded.mcs (order.frames * order.every) (begun_with loaded.world)).accepted;
+  verdict = verdict;
 }
 
 -- What a run does to a sink: it refuses to begin, or the sink takes the text of the run and flushes it, or a prefix of it
--- until a call fails. `untouched` says that the sink is as it was.
-abbrev pub Runs : Result RunDone RunFault → Loaded → RunOrder → List ℕ → Account → Account → Type 0 → Type 0
-Runs (Ok done) loaded order kept old new untouched =
-    (is_too_far loaded order ≡ false) × (done ≡ run_done loaded order) × Delivered old new (run_text loaded order kept)
-Runs (Err (faults.TooFar mcs reach)) loaded order kept old new untouched =
+-- until a call fails. A run that is begun has the verdict on the world's set. `untouched` says that the sink is as it was.
+abbrev pub Runs : Result RunDone RunFault → Loaded → RunOrder → SetVerdict → List ℕ → Account → Account → Type 0 → Type 0
+Runs (Ok done) loaded order verdict kept old new untouched =
+    (is_too_far loaded order ≡ false) × IsVerdict loaded.world.set verdict × (done ≡ run_done loaded order verdict)
+    × Delivered old new (run_text loaded order kept)
+Runs (Err (faults.TooFar mcs reach)) loaded order verdict kept old new untouched =
     (is_too_far loaded order ≡ true) × (mcs ≡ last_mcs loaded order) × (reach ≡ last_reach loaded order) × untouched
-Runs (Err faults.WriteFault) loaded order kept old new untouched =
-    (is_too_far loaded order ≡ false) × TookPrefix old new (run_text loaded order kept)
+Runs (Err faults.WriteFault) loaded order verdict kept old new untouched =
+    (is_too_far loaded order ≡ false) × IsVerdict loaded.world.set verdict × TookPrefix old new (run_text loaded order kept)

@@ -4,6 +4,7 @@ ghost use Rattle.bfm_base.specs.declared.limits.TheConstants.{MOST_FRAMES, MOST_
 ghost use Rattle.bfm_world.specs.Configuration.{reach_of};
 ghost use Rattle.sweep_run.specs.Sweep.{after_sweeps, begun_with};
 ghost use Rattle.bfm_session.specs.Running.{Runs, groups_text};
+ghost use Rattle.crossing_check.specs.declared.judgement.SetVerdict.{SetVerdict};
 
 use crate::order::RunOrder;
 use bfm_base::limits::{GREATEST_MCS, RUN_REACH};
@@ -11,6 +12,7 @@ use bfm_base::{Failed, Sink, send};
 use bfm_commands::Loaded;
 use bfm_world::{Engine, World};
 use bfm_writer::group;
+use crossing_check::{SetVerdict, verdict};
 use plain_move::PlainEngine;
 use sweep_run::sweeps;
 use thiserror::Error;
@@ -22,6 +24,8 @@ pub struct RunDone {
     pub mcs: u64,
     /// The number of moves that were made.
     pub accepted: u64,
+    /// Whether the set of bond vectors allows a crossing move.
+    pub verdict: SetVerdict,
 }
 
 /// Why a run was not made, or not written to its end.
@@ -47,7 +51,7 @@ pub fn run<O: Sink>(
     requires frames { order.now.frames ≤ MOST_FRAMES }
     requires every { order.now.every ≤ MOST_SWEEPS }
     requires mcs { loaded.mcs ≤ GREATEST_MCS }
-    ensures { Runs result loaded order.now kept.now (O.account output.old) (O.account output.new) (output.new ≡ output.old) }
+    ensures { (verdict : SetVerdict) × Runs result loaded order.now verdict kept.now (O.account output.old) (O.account output.new) (output.new ≡ output.old) }
 {
     let sweeps = order.frames * order.every;
     let mcs = u128::from(loaded.mcs) + u128::from(sweeps);
@@ -56,10 +60,12 @@ pub fn run<O: Sink>(
     if mcs > u128::from(GREATEST_MCS) || reach > u128::from(RUN_REACH) {
         return Err(RunFault::TooFar { mcs, reach });
     }
+    let verdict = verdict(loaded.world.set());
     match frames(loaded.world, loaded.mcs, kept, order, output) {
         Ok(accepted) => Ok(RunDone {
             mcs: loaded.mcs + sweeps,
             accepted,
+            verdict,
         }),
         Err(_) => Err(RunFault::WriteFault),
     }
