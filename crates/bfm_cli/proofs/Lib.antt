@@ -1,3 +1,4 @@
 mod JobLemmas
 mod OutcomeLemmas
+mod VerdictLemmas
 mod WordLemmas

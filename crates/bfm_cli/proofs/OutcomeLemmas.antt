@@ -1,19 +1,25 @@
 -- What follows from the outcome of a run over an input.
-use Rattle.std.proofs.Common.{◌≡◌, ◌≢◌, ℕ, ◌<◌, ◌≤◌, Bool, true, false, cond, List, [], length, take, nat_lt, Option, Some, None, Result, Ok, Err, IsErr, ◌⊎◌, inl, inr, refl, sym, ap, ◌∙◌, subst, arith}
+use Rattle.std.proofs.Common.{◌≡◌, ◌≢◌, ℕ, ◌<◌, ◌≤◌, Bool, true, false, cond, List, [], length, take, nat_lt, Option, Some, None, IfSome, Result, Ok, Err, IsErr, ◌⊎◌, inl, inr, refl, sym, ap, ◌∙◌, subst, arith}
 use Rattle.std.proofs.lemmas.Bool.Decides.{nat_tests}
 use Rattle.bfm_base.specs.declared.cause.Refused.{Refused}
 use Rattle.bfm_base.specs.declared.limits.TheConstants.{USUAL_LIMIT}
+use Rattle.bfm_world.specs.Configuration.{IsValid}
+use Rattle.crossing_check.specs.declared.judgement.SetVerdict.{SetVerdict}
+use Rattle.sweep_run.specs.Sweep.{begun_with}
+use Rattle.sweep_run.proofs.SweepLemmas.{IsValid-state}
 use Rattle.bfm_commands.specs.Verdict.{verdict_of}
 use Rattle.bfm_commands.specs.declared.loaded.Loaded.{Loaded}
 use Rattle.bfm_session.specs.Loading.{Holds, Supply, ReadWhole}
 use Rattle.bfm_session.specs.Running.{is_too_far, last_mcs, last_reach, run_done, run_text}
 use Rattle.bfm_session.specs.declared.order.RunOrder.{RunOrder}
 use Rattle.bfm_cli.specs.Ending.{status_of}
-use Rattle.bfm_cli.specs.Outcome.{Outcome, nothing, run_report, run_outcome, file_outcome, job_outcome}
+use Rattle.bfm_cli.specs.Outcome.{JudgesSetOf, nothing, run_report, accepted_outcome, file_outcome, job_outcome}
+use Rattle.std.specs.Io.KnownBytes.{Appends}
 use Rattle.bfm_base.specs.Account.{Account}
-use Rattle.bfm_cli.specs.Promise.{Reads, IsAfterReading, DoesOver, Scene, Tells}
+use Rattle.bfm_base.specs.Faults.{Rose}
+use Rattle.bfm_cli.specs.Promise.{Reads, IsAfterReading, DoesOver, HasValidRun, HasValidStates, Scene, Tells}
 use Rattle.bfm_cli.specs.declared.job.Job.{Job}
-use Rattle.bfm_cli.specs.declared.job.Job.TheVariants.{Run}
+use Rattle.bfm_cli.specs.declared.job.Job.TheVariants.{Run, Look}
 use Rattle.bfm_cli.specs.declared.ending.Ending.{Ending}
 use Rattle.bfm_cli.specs.declared.ending.Ending.TheVariants as ends
 use Rattle.bfm_cli.specs.declared.ending.Fault.{Fault}
@@ -27,53 +33,86 @@ Holds-some None = ([], tt)
 Holds-some (Some bytes) = (bytes, refl)
 
 -- the outcome where the input is within the limit, and where it is not
-pub job_outcome-within : (order : RunOrder) (bytes : List ℕ) → length bytes ≤ USUAL_LIMIT → job_outcome (Ok (Run order)) bytes ≡ file_outcome order bytes (verdict_of bytes)
-job_outcome-within order bytes l =
+pub job_outcome-within : (job : Job) (bytes : List ℕ) (verdict : SetVerdict) → length bytes ≤ USUAL_LIMIT → job_outcome (Ok job) bytes verdict ≡ file_outcome job bytes verdict (verdict_of bytes)
+job_outcome-within job bytes verdict l =
     let short : nat_lt USUAL_LIMIT (length bytes) ≡ false = grind (arith, nat_tests) in
-    ap (λ b. cond b (nothing (ends.TooLong USUAL_LIMIT)) (file_outcome order bytes (verdict_of bytes))) short
+    ap (λ b. cond b (nothing (ends.TooLong USUAL_LIMIT)) (file_outcome job bytes verdict (verdict_of bytes))) short
 
-pub job_outcome-long : (order : RunOrder) (bytes : List ℕ) → USUAL_LIMIT < length bytes → job_outcome (Ok (Run order)) bytes ≡ nothing (ends.TooLong USUAL_LIMIT)
-job_outcome-long order bytes l =
+pub job_outcome-long : (job : Job) (bytes : List ℕ) (verdict : SetVerdict) → USUAL_LIMIT < length bytes → job_outcome (Ok job) bytes verdict ≡ nothing (ends.TooLong USUAL_LIMIT)
+job_outcome-long job bytes verdict l =
     let long : nat_lt USUAL_LIMIT (length bytes) ≡ true = grind (arith, nat_tests) in
-    ap (λ b. cond b (nothing (ends.TooLong USUAL_LIMIT)) (file_outcome order bytes (verdict_of bytes))) long
+    ap (λ b. cond b (nothing (ends.TooLong USUAL_LIMIT)) (file_outcome job bytes verdict (verdict_of bytes))) long
 
 -- the outcome of an accepted file
-pub job_outcome-loaded : (order : RunOrder) (bytes kept : List ℕ) (loaded : Loaded) → length bytes ≤ USUAL_LIMIT → verdict_of bytes ≡ Ok loaded → kept ≡ take loaded.kept bytes
-    → job_outcome (Ok (Run order)) bytes ≡ run_outcome loaded order kept
-job_outcome-loaded order bytes kept loaded l e k = job_outcome-within order bytes l ∙ (ap (file_outcome order bytes) e ∙ ap (run_outcome loaded order) (sym k))
+pub job_outcome-loaded : (job : Job) (bytes kept : List ℕ) (loaded : Loaded) (verdict : SetVerdict) → length bytes ≤ USUAL_LIMIT → verdict_of bytes ≡ Ok loaded → kept ≡ take loaded.kept bytes
+    → job_outcome (Ok job) bytes verdict ≡ accepted_outcome job loaded kept verdict
+job_outcome-loaded job bytes kept loaded verdict l e k =
+    job_outcome-within job bytes verdict l ∙ (ap (file_outcome job bytes verdict) e ∙ ap (λ kept. accepted_outcome job loaded kept verdict) (sym k))
 
 -- and of a refused one
-pub job_outcome-refused : (order : RunOrder) (bytes : List ℕ) (refused : Refused) → length bytes ≤ USUAL_LIMIT → verdict_of bytes ≡ Err refused
-    → job_outcome (Ok (Run order)) bytes ≡ nothing (ends.BadFile refused)
-job_outcome-refused order bytes refused l e = job_outcome-within order bytes l ∙ ap (file_outcome order bytes) e
+pub job_outcome-refused : (job : Job) (bytes : List ℕ) (refused : Refused) (verdict : SetVerdict) → length bytes ≤ USUAL_LIMIT → verdict_of bytes ≡ Err refused
+    → job_outcome (Ok job) bytes verdict ≡ nothing (ends.BadFile refused)
+job_outcome-refused job bytes refused verdict l e = job_outcome-within job bytes verdict l ∙ ap (file_outcome job bytes verdict) e
 
--- a run is never told as wrong words
-far_or_done : (far : Bool) (loaded : Loaded) (order : RunOrder) (kept : List ℕ)
-    → status_of (cond far (nothing (ends.TooFar (last_mcs loaded order) (last_reach loaded order))) (record { ending = ends.Done (run_report loaded.kept loaded.skipped order (run_done loaded order)); output = run_text loaded order kept })).ending ≢ statuses.BadWords
-far_or_done true loaded order kept e = cc
-far_or_done false loaded order kept e = cc
+-- a job is never told as wrong words
+far_or_done : (far : Bool) (loaded : Loaded) (order : RunOrder) (kept : List ℕ) (verdict : SetVerdict)
+    → status_of (cond far (nothing (ends.TooFar (last_mcs loaded order) (last_reach loaded order))) (record { ending = ends.Ran (run_report loaded.kept loaded.skipped order (run_done loaded order verdict)); output = run_text loaded order kept })).ending ≢ statuses.BadWords
+far_or_done true loaded order kept verdict e = cc
+far_or_done false loaded order kept verdict e = cc
 
-file_outcome-words : (order : RunOrder) (bytes : List ℕ) (verdict : Result Loaded Refused) → status_of (file_outcome order bytes verdict).ending ≢ statuses.BadWords
-file_outcome-words order bytes (Err refused) e = cc
-file_outcome-words order bytes (Ok loaded) e = far_or_done (is_too_far loaded order) loaded order (take loaded.kept bytes) e
+accepted_outcome-words : (job : Job) (loaded : Loaded) (kept : List ℕ) (verdict : SetVerdict) → status_of (accepted_outcome job loaded kept verdict).ending ≢ statuses.BadWords
+accepted_outcome-words (Run order) loaded kept verdict e = far_or_done (is_too_far loaded order) loaded order kept verdict e
+accepted_outcome-words (Look ask) loaded kept verdict e = cc
 
-long_or_file : (long : Bool) (order : RunOrder) (bytes : List ℕ) → status_of (cond long (nothing (ends.TooLong USUAL_LIMIT)) (file_outcome order bytes (verdict_of bytes))).ending ≢ statuses.BadWords
-long_or_file true order bytes e = cc
-long_or_file false order bytes e = file_outcome-words order bytes (verdict_of bytes) e
+file_outcome-words : (job : Job) (bytes : List ℕ) (verdict : SetVerdict) (file : Result Loaded Refused) → status_of (file_outcome job bytes verdict file).ending ≢ statuses.BadWords
+file_outcome-words job bytes verdict (Err refused) e = cc
+file_outcome-words job bytes verdict (Ok loaded) e = accepted_outcome-words job loaded (take loaded.kept bytes) verdict e
 
-pub job_outcome-words : (order : RunOrder) (bytes : List ℕ) → status_of (job_outcome (Ok (Run order)) bytes).ending ≢ statuses.BadWords
-job_outcome-words order bytes e = long_or_file (nat_lt USUAL_LIMIT (length bytes)) order bytes e
+long_or_file : (long : Bool) (job : Job) (bytes : List ℕ) (verdict : SetVerdict) → status_of (cond long (nothing (ends.TooLong USUAL_LIMIT)) (file_outcome job bytes verdict (verdict_of bytes))).ending ≢ statuses.BadWords
+long_or_file true job bytes verdict e = cc
+long_or_file false job bytes verdict e = file_outcome-words job bytes verdict (verdict_of bytes) e
+
+pub job_outcome-words : (job : Job) (bytes : List ℕ) (verdict : SetVerdict) → status_of (job_outcome (Ok job) bytes verdict).ending ≢ statuses.BadWords
+job_outcome-words job bytes verdict e = long_or_file (nat_lt USUAL_LIMIT (length bytes)) job bytes verdict e
+
+-- no verdict on the set changes the status
+far_or_done-status : (far : Bool) (loaded : Loaded) (order : RunOrder) (kept : List ℕ) (a b : SetVerdict)
+    → status_of (cond far (nothing (ends.TooFar (last_mcs loaded order) (last_reach loaded order))) (record { ending = ends.Ran (run_report loaded.kept loaded.skipped order (run_done loaded order a)); output = run_text loaded order kept })).ending
+    ≡ status_of (cond far (nothing (ends.TooFar (last_mcs loaded order) (last_reach loaded order))) (record { ending = ends.Ran (run_report loaded.kept loaded.skipped order (run_done loaded order b)); output = run_text loaded order kept })).ending
+far_or_done-status true loaded order kept a b = refl
+far_or_done-status false loaded order kept a b = refl
+
+file_outcome-status : (job : Job) (bytes : List ℕ) (a b : SetVerdict) (file : Result Loaded Refused) → status_of (file_outcome job bytes a file).ending ≡ status_of (file_outcome job bytes b file).ending
+file_outcome-status job bytes a b (Err refused) = refl
+file_outcome-status (Run order) bytes a b (Ok loaded) = far_or_done-status (is_too_far loaded order) loaded order (take loaded.kept bytes) a b
+file_outcome-status (Look ask) bytes a b (Ok loaded) = refl
+
+long_or_file-status : (long : Bool) (job : Job) (bytes : List ℕ) (a b : SetVerdict)
+    → status_of (cond long (nothing (ends.TooLong USUAL_LIMIT)) (file_outcome job bytes a (verdict_of bytes))).ending ≡ status_of (cond long (nothing (ends.TooLong USUAL_LIMIT)) (file_outcome job bytes b (verdict_of bytes))).ending
+long_or_file-status true job bytes a b = refl
+long_or_file-status false job bytes a b = file_outcome-status job bytes a b (verdict_of bytes)
+
+job_outcome-status : (job : Result Job ℕ) (bytes : List ℕ) (a b : SetVerdict) → status_of (job_outcome job bytes a).ending ≡ status_of (job_outcome job bytes b).ending
+job_outcome-status (Err word) bytes a b = refl
+job_outcome-status (Ok job) bytes a b = long_or_file-status (nat_lt USUAL_LIMIT (length bytes)) job bytes a b
+
+-- a run of an accepted file has valid states
+pub HasValidRun-loaded : (job : Job) (bytes : List ℕ) (loaded : Loaded) → IsValid loaded.world → verdict_of bytes ≡ Ok loaded → HasValidRun (Ok job) bytes
+HasValidRun-loaded (Look ask) bytes loaded valid e = tt
+HasValidRun-loaded (Run order) bytes loaded valid e =
+    subst (HasValidStates order) (sym e) (λ count a. IsValid-state order.seed loaded.mcs count a (begun_with loaded.world) valid)
 
 -- what an ending behind the reading says of the input
 pub Reads-after : (ended : Result Ending Fault) (before after : Supply) (unread : Type 0) → IsAfterReading ended → ReadWhole before after → Reads ended before after unread
-Reads-after (Ok (ends.Done done)) before after unread a r = r
+Reads-after (Ok (ends.Ran done)) before after unread a r = r
+Reads-after (Ok ends.Answered) before after unread a r = r
 Reads-after (Ok (ends.BadWords word)) before after unread a r = absurd a
 Reads-after (Ok (ends.BadFile refused)) before after unread a r = absurd a
 Reads-after (Ok (ends.TooLong limit)) before after unread a r = absurd a
 Reads-after (Ok (ends.TooFar mcs reach)) before after unread a r = r
 Reads-after (Err faults.Read) before after unread a r = absurd a
 Reads-after (Err faults.Write) before after unread a r = r
-Reads-after (Err faults.Memory) before after unread a r = absurd a
+Reads-after (Err faults.Memory) before after unread a r = r.calm
 
 -- Wrong words come to nothing else.
 pub words-only : (ended : Result Ending Fault) (job : Result Job ℕ) (scene : Scene) → DoesOver ended job scene → IsErr job → (word : ℕ) × (ended ≡ Ok (ends.BadWords word))
@@ -90,3 +129,28 @@ words-told ended word job scene status old new unreported e d t =
     let t' = subst (λ x. Tells x status old new unreported) e t in
     let d' = subst (λ x. DoesOver x job scene) e d in
     (elim t' [ inl told ↦ inl told.0 | inr failed ↦ inr failed.0 ], d'.does.reads, d'.does.writes)
+
+-- what holds of the bytes that a source has left holds of those that it tells
+IfSome-held : (left : Option (List ℕ)) (bytes : List ℕ) (P : List ℕ → Type 0) → Holds left bytes → P bytes → IfSome left P
+IfSome-held None bytes P h p = tt
+IfSome-held (Some all) bytes P h p = subst P (sym h) p
+
+-- without faults the status is that of the outcome, or want of memory
+status-told : (ended : Result Ending Fault) (job : Result Job ℕ) (s : Scene) (status : Status) (old new : Account) (unreported : Type 0) (verdict : SetVerdict) (d : DoesOver ended job s)
+    → Tells ended status old new unreported → ¬ (Rose s.input_before.faults s.input_after.faults) → ¬ (Rose s.output_before.faults s.output_after.faults) → ¬ (Rose old.faults new.faults)
+    → (status ≡ status_of (job_outcome job d.bytes verdict).ending) ⊎ ((status ≡ statuses.Memory) × (status_of (job_outcome job d.bytes verdict).ending ≢ statuses.BadWords))
+status-told (Ok ending) job s status old new unreported verdict d t calm_in calm_out calm_report =
+    elim t [
+      | inl told ↦ inl (told.0 ∙ (ap status_of d.does.agrees ∙ job_outcome-status job d.bytes d.verdict verdict))
+      | inr failed ↦ absurd (calm_report failed.1.rose)
+    ]
+status-told (Err faults.Read) job s status old new unreported verdict d t calm_in calm_out calm_report = absurd (calm_in d.does.reads)
+status-told (Err faults.Write) job s status old new unreported verdict d t calm_in calm_out calm_report = absurd (calm_out d.does.writes.rose)
+status-told (Err faults.Memory) job s status old new unreported verdict d t calm_in calm_out calm_report =
+    inr (t.0, λ e. d.does.agrees (job_outcome-status job d.bytes d.verdict verdict ∙ e))
+
+pub outcome-told : (ended : Result Ending Fault) (job : Result Job ℕ) (s : Scene) (status : Status) (old new : Account) (unreported : Type 0) → DoesOver ended job s
+    → Tells ended status old new unreported → ¬ (Rose s.input_before.faults s.input_after.faults) → ¬ (Rose s.output_before.faults s.output_after.faults) → ¬ (Rose old.faults new.faults)
+    → IfSome s.input_before.left (λ bytes. (verdict : SetVerdict) → (status ≡ status_of (job_outcome job bytes verdict).ending) ⊎ ((status ≡ statuses.Memory) × (status_of (job_outcome job bytes verdict).ending ≢ statuses.BadWords)))
+outcome-told ended job s status old new unreported d t calm_in calm_out calm_report =
+    IfSome-held s.input_before.left d.bytes _ d.left (λ verdict. status-told ended job s status old new unreported verdict d t calm_in calm_out calm_report)

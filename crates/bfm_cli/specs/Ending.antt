@@ -1,7 +1,8 @@
 -- How a job ends: its status and its report.
-use Rattle.std.specs.Prelude.{ℕ, List, [], ◌∷◌, codes, decimal, Result, Ok, Err}
+use Rattle.std.specs.Prelude.{ℕ, List, [], ◌∷◌, ◌++◌, codes, decimal, Result, Ok, Err}
 use Rattle.std.specs.List.{concat}
 use Rattle.bfm_base.specs.Cause.{cause_number, cause_name}
+use Rattle.bfm_session.specs.CrossingText.{crossing_text}
 use Rattle.bfm_cli.specs.declared.ending.Ending.{Ending}
 use Rattle.bfm_cli.specs.declared.ending.Ending.TheVariants as ends
 use Rattle.bfm_cli.specs.declared.ending.Fault.{Fault}
@@ -10,7 +11,8 @@ use Rattle.bfm_cli.specs.declared.status.Status.{Status}
 use Rattle.bfm_cli.specs.declared.status.Status.TheVariants as statuses
 
 abbrev pub status_of : Ending → Status
-status_of (ends.Done done) = statuses.Done
+status_of (ends.Ran done) = statuses.Done
+status_of ends.Answered = statuses.Done
 status_of (ends.BadWords word) = statuses.BadWords
 status_of (ends.BadFile refused) = statuses.BadFile
 status_of (ends.TooLong limit) = statuses.TooLong
@@ -42,9 +44,9 @@ code_of statuses.TooFar = 10
 abbrev pub report_line : List ℕ → ℕ → List ℕ
 report_line name n = concat (name ∷ codes " " ∷ decimal n ∷ codes "\n" ∷ [])
 
--- the text of the report
+-- the text of the report; that of an answered question is empty
 abbrev pub report_of : Ending → List ℕ
-report_of (ends.Done done) =
+report_of (ends.Ran done) =
     concat (
     report_line (codes "kept") done.kept
     ∷ report_line (codes "frames") done.frames
@@ -54,6 +56,8 @@ report_of (ends.Done done) =
     ∷ report_line (codes "links") 0
     ∷ []
     )
+    ++ crossing_text done.verdict
+report_of ends.Answered = []
 report_of (ends.BadWords word) = report_line (codes "words") word
 report_of (ends.BadFile refused) =
     concat (codes "line " ∷ decimal refused.line ∷ codes " cause " ∷ decimal (cause_number refused.cause) ∷ codes " " ∷ cause_name refused.cause ∷ codes "\n" ∷ [])

@@ -2,10 +2,12 @@
 use Rattle.std.specs.Prelude.{ℕ, ◌+◌, ◌-◌, ◌^◌, ◌≤◌, List, [], ◌∷◌, length, codes, Option, None, Some, Result, Ok, Err, if◌then◌else◌}
 use Rattle.std.specs.Str.{bytes_eq}
 use Rattle.bfm_base.specs.declared.limits.TheConstants.{MOST_FRAMES, MOST_SWEEPS}
+use Rattle.bfm_session.specs.declared.analysis.Ask.{Ask}
+use Rattle.bfm_session.specs.declared.analysis.Ask.TheVariants.{Check}
 use Rattle.bfm_session.specs.declared.order.RunOrder.{RunOrder}
 use Rattle.bfm_cli.specs.Words.{Key, first_wrong, number_for}
 use Rattle.bfm_cli.specs.declared.job.Job.{Job}
-use Rattle.bfm_cli.specs.declared.job.Job.TheVariants.{Run}
+use Rattle.bfm_cli.specs.declared.job.Job.TheVariants.{Run, Look}
 
 -- the keys of the job `run`
 abbrev pub seed_key : Key
@@ -32,11 +34,20 @@ abbrev pub run_of : List (List ℕ) → Option ℕ → Result Job ℕ
 run_of words (Some before) = Err (before + 2)
 run_of words None = order_of (length words + 2) (number_for seed_key words) (number_for frames_key words) (number_for every_key words)
 
+-- an analysis, which has no keys: the first word behind its name is wrong
+abbrev pub look_of : Ask → List (List ℕ) → Result Job ℕ
+look_of ask [] = Ok (Look ask)
+look_of ask (word ∷ words) = Err 2
+
 -- the job, or the number of the first wrong word
 abbrev pub job_of : List (List ℕ) → Result Job ℕ
 job_of [] = Err 1
-job_of (name ∷ words) = if bytes_eq name (codes "run") then run_of words (first_wrong run_keys [] words) else Err 1
+job_of (name ∷ words) =
+    if bytes_eq name (codes "run") then run_of words (first_wrong run_keys [] words)
+    else if bytes_eq name (codes "check") then look_of Check words
+    else Err 1
 
 -- the numbers of a job are in their ranges
 abbrev pub IsInRange : Job → Type 0
 IsInRange (Run order) = (order.frames ≤ MOST_FRAMES) × (1 ≤ order.every) × (order.every ≤ MOST_SWEEPS)
+IsInRange (Look ask) = Unit {0}

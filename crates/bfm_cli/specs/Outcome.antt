@@ -1,18 +1,24 @@
--- What words call for over the bytes of an input: a function of both.
-use Rattle.std.specs.Prelude.{ℕ, nat_lt, List, [], length, take, Result, Ok, Err, if◌then◌else◌}
+-- What words call for over the bytes of an input: a function of both, and of the verdict on the set of an accepted file.
+use Rattle.std.specs.Prelude.{◌≡◌, ℕ, nat_lt, List, [], length, take, Option, None, Some, Result, Ok, Err, if◌then◌else◌}
+use Rattle.bfm_base.specs.declared.place.P3.{P3}
+use Rattle.bfm_base.specs.declared.place.Dir.{Dir}
 use Rattle.bfm_base.specs.declared.cause.Refused.{Refused}
 use Rattle.bfm_base.specs.declared.limits.TheConstants.{USUAL_LIMIT}
+use Rattle.crossing_check.specs.Verdict.{IsVerdict}
+use Rattle.crossing_check.specs.declared.judgement.SetVerdict.{SetVerdict}
+use Rattle.crossing_check.specs.declared.judgement.SetVerdict.TheVariants.{Free, Crossing}
 use Rattle.bfm_commands.specs.Verdict.{verdict_of}
 use Rattle.bfm_commands.specs.declared.loaded.Loaded.{Loaded}
+use Rattle.bfm_session.specs.Analysis.{answer_text}
 use Rattle.bfm_session.specs.Running.{is_too_far, last_mcs, last_reach, run_done, run_text}
 use Rattle.bfm_session.specs.declared.order.RunOrder.{RunOrder}
 use Rattle.bfm_session.specs.declared.running.RunDone.{RunDone}
 use Rattle.bfm_cli.specs.Job.{job_of}
 use Rattle.bfm_cli.specs.declared.job.Job.{Job}
-use Rattle.bfm_cli.specs.declared.job.Job.TheVariants.{Run}
+use Rattle.bfm_cli.specs.declared.job.Job.TheVariants.{Run, Look}
 use Rattle.bfm_cli.specs.declared.ending.Ending.{Ending}
 use Rattle.bfm_cli.specs.declared.ending.RunReport.{RunReport}
-use Rattle.bfm_cli.specs.declared.ending.Ending.TheVariants.{Done, BadWords, BadFile, TooLong, TooFar}
+use Rattle.bfm_cli.specs.declared.ending.Ending.TheVariants.{Ran, Answered, BadWords, BadFile, TooLong, TooFar}
 
 -- an ending, and the text of the output
 pub record Outcome : Type 0 where
@@ -25,24 +31,42 @@ nothing ending = record { ending = ending; output = [] }
 
 -- what a run tells of itself
 abbrev pub run_report : ℕ → ℕ → RunOrder → RunDone → RunReport
-run_report kept skipped order done = record { kept = kept; frames = order.frames; mcs = done.mcs; skipped = skipped; accepted = done.accepted }
+run_report kept skipped order done = record { kept = kept; frames = order.frames; mcs = done.mcs; skipped = skipped; accepted = done.accepted; verdict = done.verdict }
 
 -- a run of an accepted file, of which this part is kept
-abbrev pub run_outcome : Loaded → RunOrder → List ℕ → Outcome
-run_outcome loaded order kept =
+abbrev pub run_outcome : RunOrder → Loaded → List ℕ → SetVerdict → Outcome
+run_outcome order loaded kept verdict =
     if is_too_far loaded order then nothing (TooFar (last_mcs loaded order) (last_reach loaded order))
-    else record { ending = Done (run_report loaded.kept loaded.skipped order (run_done loaded order)); output = run_text loaded order kept }
+    else record { ending = Ran (run_report loaded.kept loaded.skipped order (run_done loaded order verdict)); output = run_text loaded order kept }
 
--- a run over an input, by the verdict on it
-abbrev pub file_outcome : RunOrder → List ℕ → Result Loaded Refused → Outcome
-file_outcome order input (Err refused) = nothing (BadFile refused)
-file_outcome order input (Ok loaded) = run_outcome loaded order (take loaded.kept input)
+-- what a job makes of an accepted file
+abbrev pub accepted_outcome : Job → Loaded → List ℕ → SetVerdict → Outcome
+accepted_outcome (Run order) loaded kept verdict = run_outcome order loaded kept verdict
+accepted_outcome (Look ask) loaded kept verdict = record { ending = Answered; output = answer_text ask verdict }
 
-abbrev pub job_outcome : Result Job ℕ → List ℕ → Outcome
-job_outcome (Err word) input = nothing (BadWords word)
-job_outcome (Ok (Run order)) input =
-    if nat_lt USUAL_LIMIT (length input) then nothing (TooLong USUAL_LIMIT) else file_outcome order input (verdict_of input)
+-- what it makes of an input, by the verdict on that
+abbrev pub file_outcome : Job → List ℕ → SetVerdict → Result Loaded Refused → Outcome
+file_outcome job input verdict (Err refused) = nothing (BadFile refused)
+file_outcome job input verdict (Ok loaded) = accepted_outcome job loaded (take loaded.kept input) verdict
 
--- the outcome of words over input bytes
-abbrev pub outcome_of : List (List ℕ) → List ℕ → Outcome
-outcome_of words input = job_outcome (job_of words) input
+abbrev pub job_outcome : Result Job ℕ → List ℕ → SetVerdict → Outcome
+job_outcome (Err word) input verdict = nothing (BadWords word)
+job_outcome (Ok job) input verdict =
+    if nat_lt USUAL_LIMIT (length input) then nothing (TooLong USUAL_LIMIT) else file_outcome job input verdict (verdict_of input)
+
+-- the outcome of words over input bytes, where this is the verdict on the file's set
+abbrev pub outcome_of : List (List ℕ) → List ℕ → SetVerdict → Outcome
+outcome_of words input verdict = job_outcome (job_of words) input verdict
+
+-- the verdict is one on the set of an accepted file; of a refused one it may be any
+abbrev pub JudgesSet : SetVerdict → Result Loaded Refused → Type 0
+JudgesSet verdict (Err refused) = Unit {0}
+JudgesSet verdict (Ok loaded) = IsVerdict loaded.world.set verdict
+
+abbrev pub JudgesSetOf : List ℕ → SetVerdict → Type 0
+JudgesSetOf input verdict = JudgesSet verdict (verdict_of input)
+
+-- a verdict but for its weights, which alone are free: b, the direction, c and e of the first crossing
+abbrev pub first_crossing : SetVerdict → Option (P3 × Dir × P3 × P3)
+first_crossing Free = None
+first_crossing (Crossing b dir c e weights) = Some (b, dir, c, e)

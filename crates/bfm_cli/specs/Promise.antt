@@ -6,15 +6,17 @@ use Rattle.bfm_base.specs.Faults.{Rose}
 use Rattle.bfm_base.specs.declared.cause.Cause.TheVariants.{NoFrame}
 use Rattle.bfm_base.specs.declared.cause.Refused.{Refused}
 use Rattle.bfm_world.specs.Configuration.{IsValid}
+use Rattle.crossing_check.specs.Verdict.{IsVerdict}
+use Rattle.crossing_check.specs.declared.judgement.SetVerdict.{SetVerdict}
 use Rattle.bfm_commands.specs.Verdict.{verdict_of}
 use Rattle.bfm_commands.specs.declared.loaded.Loaded.{Loaded}
 use Rattle.sweep_run.specs.Sweep.{state_at, begun_with}
 use Rattle.bfm_session.specs.Loading.{Supply, Holds, ReadWhole}
 use Rattle.bfm_session.specs.declared.order.RunOrder.{RunOrder}
 use Rattle.bfm_cli.specs.Ending.{status_of, ended_status, ended_report}
-use Rattle.bfm_cli.specs.Outcome.{Outcome, job_outcome}
+use Rattle.bfm_cli.specs.Outcome.{Outcome, JudgesSetOf, accepted_outcome, job_outcome}
 use Rattle.bfm_cli.specs.declared.job.Job.{Job}
-use Rattle.bfm_cli.specs.declared.job.Job.TheVariants.{Run}
+use Rattle.bfm_cli.specs.declared.job.Job.TheVariants.{Run, Look}
 use Rattle.bfm_cli.specs.declared.ending.Ending.{Ending}
 use Rattle.bfm_cli.specs.declared.ending.Ending.TheVariants as ends
 use Rattle.bfm_cli.specs.declared.ending.Fault.{Fault}
@@ -52,7 +54,8 @@ Agrees (Err faults.Memory) outcome = status_of outcome.ending ≢ statuses.BadWo
 
 -- What the job did to its input. `unread` says that the input is as it was.
 abbrev pub Reads : Result Ending Fault → Supply → Supply → Type 0 → Type 0
-Reads (Ok (ends.Done done)) before after unread = ReadWhole before after
+Reads (Ok (ends.Ran done)) before after unread = ReadWhole before after
+Reads (Ok ends.Answered) before after unread = ReadWhole before after
 Reads (Ok (ends.BadWords word)) before after unread = unread
 Reads (Ok (ends.BadFile refused)) before after unread = (after.faults ≡ before.faults) × (refused.cause ≡ NoFrame → IsAtEnd after.left)
 Reads (Ok (ends.TooLong limit)) before after unread = after.faults ≡ before.faults
@@ -63,7 +66,8 @@ Reads (Err faults.Memory) before after unread = after.faults ≡ before.faults
 
 -- What the job did to its output, which is to take this text. `unwritten` says that the output is as it was.
 abbrev pub Writes : Result Ending Fault → List ℕ → Account → Account → Type 0 → Type 0
-Writes (Ok (ends.Done done)) text before after unwritten = Delivered before after text
+Writes (Ok (ends.Ran done)) text before after unwritten = Delivered before after text
+Writes (Ok ends.Answered) text before after unwritten = Delivered before after text
 Writes (Ok (ends.BadWords word)) text before after unwritten = unwritten
 Writes (Ok (ends.BadFile refused)) text before after unwritten = unwritten
 Writes (Ok (ends.TooLong limit)) text before after unwritten = unwritten
@@ -88,24 +92,49 @@ HasValidStates order (Ok loaded) =
 abbrev pub HasValidRun : Result Job ℕ → List ℕ → Type 0
 HasValidRun (Err word) bytes = Unit {0}
 HasValidRun (Ok (Run order)) bytes = HasValidStates order (verdict_of bytes)
+HasValidRun (Ok (Look ask)) bytes = Unit {0}
 
--- what comes only once a file was accepted
+-- what comes only where the output was called
+abbrev pub IsBegun : Result Ending Fault → Type 0
+IsBegun (Ok (ends.Ran done)) = Unit {0}
+IsBegun (Ok ends.Answered) = Unit {0}
+IsBegun (Ok (ends.BadWords word)) = ⊥
+IsBegun (Ok (ends.BadFile refused)) = ⊥
+IsBegun (Ok (ends.TooLong limit)) = ⊥
+IsBegun (Ok (ends.TooFar mcs reach)) = ⊥
+IsBegun (Err faults.Read) = ⊥
+IsBegun (Err faults.Write) = Unit {0}
+IsBegun (Err faults.Memory) = ⊥
+
+-- what may come once a file was accepted
 abbrev pub IsAfterReading : Result Ending Fault → Type 0
-IsAfterReading (Ok (ends.Done done)) = Unit {0}
+IsAfterReading (Ok (ends.Ran done)) = Unit {0}
+IsAfterReading (Ok ends.Answered) = Unit {0}
 IsAfterReading (Ok (ends.BadWords word)) = ⊥
 IsAfterReading (Ok (ends.BadFile refused)) = ⊥
 IsAfterReading (Ok (ends.TooLong limit)) = ⊥
 IsAfterReading (Ok (ends.TooFar mcs reach)) = Unit {0}
 IsAfterReading (Err faults.Read) = ⊥
 IsAfterReading (Err faults.Write) = Unit {0}
-IsAfterReading (Err faults.Memory) = ⊥
+IsAfterReading (Err faults.Memory) = Unit {0}
 
--- All that was done for a job, over the bytes that the input had left. Each state of a run that was begun is valid.
+-- What a job did with an accepted file, of which this part is kept. Where it was begun, the verdict is one on the file's set.
+pub record DoesAccepted (ended : Result Ending Fault) (job : Job) (loaded : Loaded) (kept : List ℕ) (before after : Account) (unwritten : Type 0) : Type 0 where
+  pub verdict : SetVerdict
+  pub judged : IsBegun ended → IsVerdict loaded.world.set verdict
+  pub agrees : Agrees ended (accepted_outcome job loaded kept verdict)
+  pub read : IsAfterReading ended
+  pub writes : Writes ended (accepted_outcome job loaded kept verdict).output before after unwritten
+
+-- All that was done for a job, over the bytes that the input had left. Where it was begun, the verdict is one on the file's
+-- set, and each state of a run is valid.
 pub record DoesOver (ended : Result Ending Fault) (job : Result Job ℕ) (scene : Scene) : Type 0 where
   pub bytes : List ℕ
   pub left : Holds scene.input_before.left bytes
-  pub does : Does ended (job_outcome job bytes) scene
-  pub states : IsAfterReading ended → HasValidRun job bytes
+  pub verdict : SetVerdict
+  pub judged : IsBegun ended → JudgesSetOf bytes verdict
+  pub does : Does ended (job_outcome job bytes verdict) scene
+  pub states : IsBegun ended → HasValidRun job bytes
 
 -- the report was made and flushed, or a prefix of it until a call failed
 abbrev pub Reports : Result Ending Fault → Status → Account → Account → Type 0

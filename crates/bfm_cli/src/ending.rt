@@ -1,4 +1,5 @@
 use bfm_base::Refused;
+use crossing_check::SetVerdict;
 
 /// What a finished run tells of itself.
 #[derive(Clone, Copy, Debug, PartialEq, Eq)]
@@ -13,12 +14,17 @@ pub struct RunReport {
     pub skipped: u64,
     /// The number of moves that were made.
     pub accepted: u64,
+    /// Whether the set of bond vectors allows a crossing move.
+    pub verdict: SetVerdict,
 }
 
 /// How a job ends: what its words and the bytes of its input call for.
 #[derive(Clone, Copy, Debug, PartialEq, Eq)]
 pub enum Ending {
-    Done(RunReport),
+    /// A run was made.
+    Ran(RunReport),
+    /// What was asked of the input was written.
+    Answered,
     /// The number of the first wrong word, from 1.
     BadWords(u64),
     BadFile(Refused),

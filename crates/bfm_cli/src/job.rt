@@ -1,15 +1,17 @@
 ghost use Rattle.std.specs.Prelude.{◌≡◌, [], map, IfOk, string_bytes};
-ghost use Rattle.bfm_cli.specs.Job.{job_of, run_keys, run_of, IsInRange};
+ghost use Rattle.bfm_cli.specs.Job.{job_of, look_of, run_keys, run_of, IsInRange};
 ghost use Rattle.bfm_cli.specs.Words.{first_wrong};
 
 use crate::words::{Key, first_wrong, number_for};
 use bfm_base::limits::{MOST_FRAMES, MOST_SWEEPS};
-use bfm_session::RunOrder;
+use bfm_session::{Ask, RunOrder};
 
 /// What the program is asked to do.
 #[derive(Clone, Copy, Debug, PartialEq, Eq)]
 pub enum Job {
     Run(RunOrder),
+    /// An analysis of a file.
+    Look { ask: Ask },
 }
 
 const SEED: Key = Key {
@@ -45,8 +47,21 @@ pub fn job_of(words: &[String]) -> Result<Job, u64>
     };
     if name.as_str() == "run" {
         run_of(words)
+    } else if name.as_str() == "check" {
+        look_of(Ask::Check, words)
     } else {
         Err(1)
+    }
+}
+
+/// The analysis whose name stands before these words. It has no keys.
+fn look_of(ask: Ask, words: &[String]) -> Result<Job, u64>
+    ensures { result ≡ look_of ask (map string_bytes words.now) }
+{
+    if words.is_empty() {
+        Ok(Job::Look { ask })
+    } else {
+        Err(2)
     }
 }
 

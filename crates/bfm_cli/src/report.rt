@@ -8,6 +8,7 @@ ghost use Rattle.bfm_cli.specs.declared.ending.Ending.TheVariants as ends;
 use crate::ending::{Ending, Fault, RunReport};
 use crate::status::Status;
 use bfm_base::{Failed, Refused, Sink, send, send_pieces};
+use bfm_session::crossing_lines;
 use itoa::Buffer;
 
 /// Reports on how a job ended, and answers the status: that of the ending or of the fault, or a
@@ -56,7 +57,8 @@ fn write_ending<P: Sink>(ending: &Ending, report: &mut P) -> Result<(), Failed>
     ensures { Sends result (P.account report.old) (P.account report.new) (report_of ending.now) }
 {
     match ending {
-        Ending::Done(done) => write_done(done, report),
+        Ending::Ran(done) => write_run(done, report),
+        Ending::Answered => Ok(()),
         Ending::BadWords(word) => report_line(report, b"words", *word),
         Ending::BadFile(refused) => write_refused(refused, report),
         Ending::TooLong(limit) => report_line(report, b"long", *limit),
@@ -64,8 +66,8 @@ fn write_ending<P: Sink>(ending: &Ending, report: &mut P) -> Result<(), Failed>
     }
 }
 
-fn write_done<P: Sink>(done: &RunReport, report: &mut P) -> Result<(), Failed>
-    ensures { Sends result (P.account report.old) (P.account report.new) (report_of (ends.Done done.now)) }
+fn write_run<P: Sink>(done: &RunReport, report: &mut P) -> Result<(), Failed>
+    ensures { Sends result (P.account report.old) (P.account report.new) (report_of (ends.Ran done.now)) }
 {
     report_lines(
         report,
@@ -77,7 +79,8 @@ fn write_done<P: Sink>(done: &RunReport, report: &mut P) -> Result<(), Failed>
             (b"accepted", done.accepted),
             (b"links", 0),
         ],
-    )
+    )?;
+    crossing_lines(&done.verdict, report)
 }
 
 fn write_refused<P: Sink>(refused: &Refused, report: &mut P) -> Result<(), Failed>

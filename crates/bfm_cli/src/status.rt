@@ -67,7 +67,8 @@ fn ending_status(ending: &Ending) -> Status
     ensures { result ≡ status_of ending.now }
 {
     match ending {
-        Ending::Done(_) => Status::Done,
+        Ending::Ran(_) => Status::Done,
+        Ending::Answered => Status::Done,
         Ending::BadWords(_) => Status::BadWords,
         Ending::BadFile(_) => Status::BadFile,
         Ending::TooLong(_) => Status::TooLong,

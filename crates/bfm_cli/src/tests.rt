@@ -28,7 +28,7 @@ const ONE: &str =
 /// What the first job adds to that file, and what it reports.
 const ADDED: &str = "\n!mcs=1\n3 4 3\n";
 
-const REPORT: &str = "kept 104\nframes 1\nmcs 1\nskipped 0\naccepted 1\nlinks 0\n";
+const REPORT: &str = "kept 104\nframes 1\nmcs 1\nskipped 0\naccepted 1\nlinks 0\ncrossing free\n";
 
 /// The words of the first job.
 const WORDS: &str = "run seed=42 frames=1 every=1";
@@ -86,7 +86,7 @@ fn the_first_job_and_its_words(rt: HostRuntime) -> Result<(), Fail> {
         assert!(rt; step > 0);
         let ended = answer_to(rt.alloc(), words, ONE.as_bytes(), step)?;
         let output = format!(in rt.alloc(); "{ONE}{added}")?;
-        let report = format!(in rt.alloc(); "kept 104\n{report}links 0\n")?;
+        let report = format!(in rt.alloc(); "kept 104\n{report}links 0\ncrossing free\n")?;
         assert_eq!(rt; ended.status, Status::Done, "{words}");
         assert!(rt; ended.output.bytes() == output.as_bytes(), "{words}");
         assert!(rt; ended.report.bytes() == report.as_bytes(), "{words}");
@@ -97,12 +97,12 @@ fn the_first_job_and_its_words(rt: HostRuntime) -> Result<(), Fail> {
 // (monomers, whether y is periodic, time, positions, words, what is written after the file, the report)
 #[rattlefmt::skip]
 const WORKED: [(&str, &str, &str, &str, &str, Option<&str>, &str); 10] = [
-    ("1", "1", "0", "3 3 3\n", "run seed=42 frames=2 every=1", Some("\n!mcs=1\n3 4 3\n\n!mcs=2\n3 4 4\n"), "kept 104\nframes 2\nmcs 2\nskipped 0\naccepted 2\nlinks 0\n"),
-    ("1", "1", "0", "3 3 3\n", "run seed=42 frames=1 every=2", Some("\n!mcs=2\n3 4 4\n"), "kept 104\nframes 1\nmcs 2\nskipped 0\naccepted 2\nlinks 0\n"),
-    ("1", "1", "0", "3 3 3\r\n", WORDS, Some(ADDED), "kept 105\nframes 1\nmcs 1\nskipped 0\naccepted 1\nlinks 0\n"),
-    ("1", "1", "0", "3 3 3\n", "run seed=42 frames=0 every=1", Some(""), "kept 104\nframes 0\nmcs 0\nskipped 0\naccepted 0\nlinks 0\n"),
-    ("2", "1", "0", "0 0 0\n0 6 0\n", WORDS, Some("\n!mcs=1\n0 0 0\n0 6 1\n"), "kept 110\nframes 1\nmcs 1\nskipped 0\naccepted 1\nlinks 0\n"),
-    ("1", "0", "0", "3 6 3\n", WORDS, Some("\n!mcs=1\n3 6 3\n"), "kept 104\nframes 1\nmcs 1\nskipped 0\naccepted 0\nlinks 0\n"),
+    ("1", "1", "0", "3 3 3\n", "run seed=42 frames=2 every=1", Some("\n!mcs=1\n3 4 3\n\n!mcs=2\n3 4 4\n"), "kept 104\nframes 2\nmcs 2\nskipped 0\naccepted 2\nlinks 0\ncrossing free\n"),
+    ("1", "1", "0", "3 3 3\n", "run seed=42 frames=1 every=2", Some("\n!mcs=2\n3 4 4\n"), "kept 104\nframes 1\nmcs 2\nskipped 0\naccepted 2\nlinks 0\ncrossing free\n"),
+    ("1", "1", "0", "3 3 3\r\n", WORDS, Some(ADDED), "kept 105\nframes 1\nmcs 1\nskipped 0\naccepted 1\nlinks 0\ncrossing free\n"),
+    ("1", "1", "0", "3 3 3\n", "run seed=42 frames=0 every=1", Some(""), "kept 104\nframes 0\nmcs 0\nskipped 0\naccepted 0\nlinks 0\ncrossing free\n"),
+    ("2", "1", "0", "0 0 0\n0 6 0\n", WORDS, Some("\n!mcs=1\n0 0 0\n0 6 1\n"), "kept 110\nframes 1\nmcs 1\nskipped 0\naccepted 1\nlinks 0\ncrossing free\n"),
+    ("1", "0", "0", "3 6 3\n", WORDS, Some("\n!mcs=1\n3 6 3\n"), "kept 104\nframes 1\nmcs 1\nskipped 0\naccepted 0\nlinks 0\ncrossing free\n"),
     ("1", "0", "0", "3 7 3\n", WORDS, None, "line 9 cause 12 Outside\n"),
     ("1", "1", "0", "3 7 3\n", WORDS, Some("\n!mcs=1\n3 8 3\n"), REPORT),
     ("2", "1", "0", "0 0 0\n1 1 1\n", WORDS, None, "line 10 cause 13 Overlap\n"),
@@ -156,8 +156,8 @@ const TWICE: &str = "!set_of_bondvectors\n2 0 0:17\n2 0 0:17\n";
 // (monomers, lines before the frame, the frame, what is written after the file, the report)
 #[rattlefmt::skip]
 const HEADERS: [(&str, &str, &str, Option<&str>, &str); 5] = [
-    ("2", PAIR, "0 0 0  \n", Some("\n!mcs=1\n0 0 0  \n"), "kept 145\nframes 1\nmcs 1\nskipped 0\naccepted 0\nlinks 0\n"),
-    ("1", "", "5 5 5 \n", Some("\n!mcs=1\n5 6 5\n"), "kept 105\nframes 1\nmcs 1\nskipped 0\naccepted 1\nlinks 0\n"),
+    ("2", PAIR, "0 0 0  \n", Some("\n!mcs=1\n0 0 0  \n"), "kept 145\nframes 1\nmcs 1\nskipped 0\naccepted 0\nlinks 0\ncrossing free\n"),
+    ("1", "", "5 5 5 \n", Some("\n!mcs=1\n5 6 5\n"), "kept 105\nframes 1\nmcs 1\nskipped 0\naccepted 1\nlinks 0\ncrossing free\n"),
     ("1", UNPAIRED, "3 3 3\n", None, "line 10 cause 5 NotSymmetric\n"),
     ("1", TOO_SHORT, "3 3 3\n", None, "line 9 cause 3 BadVector\n"),
     ("1", TWICE, "3 3 3\n", None, "line 10 cause 4 Repeated\n"),
@@ -209,11 +209,90 @@ fn crossed_bonds_hold_each_other(rt: HostRuntime) -> Result<(), Fail> {
     let output = format!(in rt.alloc(); "{file}\n!mcs=10\n{frame}")?;
     let kept = file.len();
     let report = format!(in rt.alloc();
-        "kept {kept}\nframes 1\nmcs 10\nskipped 0\naccepted 0\nlinks 0\n"
+        "kept {kept}\nframes 1\nmcs 10\nskipped 0\naccepted 0\nlinks 0\ncrossing free\n"
     )?;
     assert_eq!(rt; ended.status, Status::Done);
     assert!(rt; ended.output.bytes() == output.as_bytes());
     assert!(rt; ended.report.bytes() == report.as_bytes());
+    let checked = answer_to(rt.alloc(), "check", file.as_bytes(), 1000)?;
+    assert_eq!(rt; checked.status, Status::Done);
+    assert!(rt; checked.output.bytes() == b"crossing free\n".as_slice());
+    Ok(())
+}
+
+// The kind (2,2,0) behind the usual set, in descending order.
+#[rattlefmt::skip]
+const TWELVE: &str = "2 2 0:125\n2 0 2:126\n2 0 -2:127\n2 -2 0:128\n0 2 2:129\n0 2 -2:130\n0 -2 2:131\n0 -2 -2:132\n-2 2 0:133\n-2 0 2:134\n-2 0 -2:135\n-2 -2 0:136\n";
+
+// The end of a bond steps from the first vector to the third, through a bond of the fifth.
+const SIX: &str = "2 2 0:17\n-2 -2 0:18\n2 2 1:19\n-2 -2 -1:20\n2 -2 0:21\n-2 2 0:22\n";
+
+/// The first number of the line of weights, where it is at least 1.
+fn first_weight(text: &str) -> Option<u64> {
+    let (_, weights) = text.split_once("weights ")?;
+    let (first, _) = weights.split_once(' ')?;
+    first.parse::<u64>().ok().filter(|k| *k > 0)
+}
+
+/// The crossing lines where two bonds of the set cross in their middles. One of them is an edge of
+/// the triangle, so each of its ends has the same weight k as the ends of the other.
+fn middles(alloc: Global, crossing: &str, text: &[u8]) -> Result<String, Fail> {
+    let k = first_weight(str::from_utf8(text)?).unwrap_or(1);
+    Ok(format!(in alloc; "crossing {crossing}\nweights {k} {k} 0 {k} {k}\n")?)
+}
+
+#[test]
+fn a_check_names_the_first_crossing(rt: HostRuntime) -> Result<(), Fail> {
+    let usual = usual_entries(rt.alloc())?;
+    // (whether the usual set is there, further vectors, b, the step, c and e of the crossing)
+    let table = [
+        (true, "", None),
+        (true, TWELVE, Some("2 2 1 0 0 -1 0 2 0 2 -2 1")),
+        (false, SIX, Some("2 2 0 0 0 1 0 2 0 2 -2 0")),
+        (false, "", None),
+    ];
+    for (with_usual, more, crossing) in table {
+        let first = if with_usual { usual.as_str() } else { "" };
+        let lines = format!(in rt.alloc(); "!set_of_bondvectors\n{first}{more}")?;
+        let file = file_with(rt.alloc(), "1", "8", lines.as_str(), "3 3 3\n")?;
+        let checked = answer_to(rt.alloc(), "check", file.as_bytes(), 1000)?;
+        let output = match crossing {
+            Some(crossing) => middles(rt.alloc(), crossing, checked.output.bytes())?,
+            None => String::from_str(rt.alloc(), "crossing free\n")?,
+        };
+        assert_eq!(rt; checked.status, Status::Done);
+        assert!(rt; checked.report.bytes().is_empty());
+        assert!(rt; checked.output.bytes() == output.as_bytes());
+        let kept = file.len();
+        let report = format!(in rt.alloc();
+            "kept {kept}\nframes 0\nmcs 0\nskipped 0\naccepted 0\nlinks 0\n{output}"
+        )?;
+        let words = "run seed=1 frames=0 every=1";
+        let ran = answer_to(rt.alloc(), words, file.as_bytes(), 1000)?;
+        assert!(rt; ran.report.bytes() == report.as_bytes());
+    }
+    Ok(())
+}
+
+// A check of the first file writes 14 bytes, each a byte a call, and flushes.
+#[test]
+fn each_call_of_a_check_fails_in_turn(rt: HostRuntime) -> Result<(), Fail> {
+    let whole = b"crossing free\n".as_slice();
+    for call in 1..17u64 {
+        let mut input = MemSource::new(rt.alloc(), ONE.as_bytes(), 50, &[])?;
+        let mut output = MemSink::new(rt.alloc(), 200, 1, &[call])?;
+        let mut report = MemSink::new(rt.alloc(), 200, 1, &[])?;
+        let status = run_over(rt.alloc(), "check", &mut input, &mut output, &mut report)?;
+        assert!(rt; whole.starts_with(output.bytes()), "call {call}");
+        if call <= 15 {
+            assert_eq!(rt; status, Status::WriteFault, "call {call}");
+            assert_eq!(rt; output.bytes().len() as u64, call - 1);
+            assert!(rt; report.bytes() == b"write\n".as_slice(), "call {call}");
+        } else {
+            assert_eq!(rt; status, Status::Done, "call {call}");
+            assert!(rt; report.bytes().is_empty(), "call {call}");
+        }
+    }
     Ok(())
 }
 
@@ -278,6 +357,9 @@ fn wrong_words_leave_the_input_unread(rt: HostRuntime) -> Result<(), Fail> {
         ("run seed=42 frames=1 every=0", 4),
         ("run seed=18446744073709551616 frames=1 every=1", 2),
         ("run seed=42 frames=1 every=1 speed=1", 5),
+        ("check seed=42", 2),
+        ("check check", 2),
+        ("checks", 1),
     ];
     for (words, place) in table {
         let mut input = MemSource::new(rt.alloc(), ONE.as_bytes(), 1, &[])?;
@@ -294,7 +376,7 @@ fn wrong_words_leave_the_input_unread(rt: HostRuntime) -> Result<(), Fail> {
     Ok(())
 }
 
-// The first job reads 104 bytes and the end, writes 118 bytes and reports 53, each a byte a call.
+// The first job reads 104 bytes and the end, writes 118 bytes and reports 67, each a byte a call.
 #[test]
 fn each_call_of_the_input_fails_in_turn(rt: HostRuntime) -> Result<(), Fail> {
     for call in 1..107u64 {
@@ -338,7 +420,7 @@ fn each_call_of_the_output_fails_in_turn(rt: HostRuntime) -> Result<(), Fail> {
 #[test]
 fn each_call_of_the_report_fails_in_turn(rt: HostRuntime) -> Result<(), Fail> {
     let whole = format!(in rt.alloc(); "{ONE}{ADDED}")?;
-    for call in 1..56u64 {
+    for call in 1..70u64 {
         let mut input = MemSource::new(rt.alloc(), ONE.as_bytes(), 50, &[])?;
         let mut output = MemSink::new(rt.alloc(), 200, 64, &[])?;
         let mut report = MemSink::new(rt.alloc(), 200, 1, &[call])?;
@@ -349,12 +431,12 @@ fn each_call_of_the_report_fails_in_turn(rt: HostRuntime) -> Result<(), Fail> {
             REPORT.as_bytes().starts_with(report.bytes()),
             "call {call}"
         );
-        if call <= 54 {
+        if call <= 68 {
             assert_eq!(rt; status, Status::ReportFault, "call {call}");
             assert_eq!(rt; taken, call - 1);
         } else {
             assert_eq!(rt; status, Status::Done, "call {call}");
-            assert_eq!(rt; taken, 53);
+            assert_eq!(rt; taken, 67);
         }
     }
     Ok(())

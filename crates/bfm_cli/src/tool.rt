@@ -1,12 +1,14 @@
-ghost use Rattle.std.specs.Prelude.{◌≡◌, ◌≢◌, ◌≤◌, ◌⊎◌, Result, map, string_bytes, IsErr, IfSome, Ok, true};
+ghost use Rattle.std.specs.Prelude.{◌≡◌, ◌≢◌, ◌≤◌, ◌⊎◌, ℕ, List, Result, map, string_bytes, IsErr, IfOk, IfSome, Ok, true};
 ghost use Rattle.std.specs.Io.KnownBytes.{Appends, IsAtEnd};
 ghost use Rattle.bfm_base.specs.Faults.{Rose};
 ghost use Rattle.bfm_base.specs.declared.limits.TheConstants.{GREATEST_MCS, MOST_FRAMES, MOST_SWEEPS};
+ghost use Rattle.crossing_check.specs.declared.judgement.SetVerdict.{SetVerdict};
+ghost use Rattle.bfm_commands.specs.Verdict.{verdict_of};
 ghost use Rattle.bfm_session.specs.Loading.{supply};
 ghost use Rattle.bfm_cli.specs.Job.{job_of, IsInRange};
 ghost use Rattle.bfm_cli.specs.Ending.{status_of};
-ghost use Rattle.bfm_cli.specs.Outcome.{outcome_of, run_outcome};
-ghost use Rattle.bfm_cli.specs.Promise.{Agrees, Writes, DoesOver, IsAfterReading, Tells, HasValidRun, scene};
+ghost use Rattle.bfm_cli.specs.Outcome.{JudgesSetOf, first_crossing, outcome_of};
+ghost use Rattle.bfm_cli.specs.Promise.{DoesAccepted, DoesOver, Tells, HasValidRun, scene};
 ghost use Rattle.bfm_cli.specs.declared.ending.Ending.{Ending};
 ghost use Rattle.bfm_cli.specs.declared.ending.Fault.{Fault};
 
@@ -17,7 +19,7 @@ use crate::status::Status;
 use bfm_base::limits::USUAL_LIMIT;
 use bfm_base::{Sink, Source};
 use bfm_commands::Loaded;
-use bfm_session::{LoadFault, RunFault, RunOrder, load, run};
+use bfm_session::{Ask, AskFault, LoadFault, RunFault, RunOrder, analyse, load, run};
 use std::alloc::Global;
 
 /// Does the job that the words ask for, reports on it and answers how it ended. This is the whole
@@ -36,20 +38,24 @@ pub fn run_tool<I: Source, O: Sink, P: Sink>(
         (O.account output.old) (O.account output.new) (output.new ≡ output.old))
         × Tells ended result (P.account report.old) (P.account report.new) (report.new ≡ report.old) }
 
-    // Without faults the status is that of the outcome, or want of memory.
+    // Without faults the status is that of the outcome, or want of memory. No verdict changes the status.
     ensures outcome { ¬ Rose (I.faults input.old) (I.faults input.new) → ¬ Rose (O.account output.old).faults (O.account output.new).faults
         → ¬ Rose (P.account report.old).faults (P.account report.new).faults
-        → IfSome (I.left input.old) (λ bytes. let outcome = outcome_of (map string_bytes words.now) bytes in
+        → IfSome (I.left input.old) (λ bytes. (verdict : SetVerdict) → let outcome = outcome_of (map string_bytes words.now) bytes verdict in
         (result ≡ status_of outcome.ending) ⊎ ((result ≡ Status.Memory) × (status_of outcome.ending ≢ Status.BadWords))) }
 
     // Done means that all of it was done: the whole input was read, the output is whole and flushed.
-    ensures done { result ≡ Status.Done → IfSome (I.left input.old) (λ bytes. let outcome = outcome_of (map string_bytes words.now) bytes in
+    ensures done { result ≡ Status.Done → IfSome (I.left input.old) (λ bytes. (verdict : SetVerdict) × JudgesSetOf bytes verdict
+        × let outcome = outcome_of (map string_bytes words.now) bytes verdict in
         (status_of outcome.ending ≡ Status.Done) × Appends (O.account output.old).taken (O.account output.new).taken outcome.output) }
     ensures done_reads_all { result ≡ Status.Done → IsAtEnd (I.left input.new) }
     ensures done_flushes { result ≡ Status.Done → (O.account output.new).flushed ≡ true }
 
     // Each state of a run that was begun is a valid world.
     ensures states { (result ≡ Status.Done) ⊎ (result ≡ Status.WriteFault) → IfSome (I.left input.old) (λ bytes. HasValidRun (job_of (map string_bytes words.now)) bytes) }
+
+    // Two verdicts on the set of one file differ in their weights alone.
+    ensures one_verdict { (bytes : List ℕ) (a b : SetVerdict) → JudgesSetOf bytes a → JudgesSetOf bytes b → IfOk (verdict_of bytes) (λ _. first_crossing a ≡ first_crossing b) }
 
     // Wrong words are told as such, whatever the input holds.
     ensures bad_words { IsErr (job_of (map string_bytes words.now)) → ((result ≡ Status.BadWords) ⊎ (result ≡ Status.ReportFault))
@@ -76,7 +82,7 @@ fn work<I: Source, O: Sink>(
     }
 }
 
-/// Does a job.
+/// Reads an input to its end, and does a job with what it holds.
 fn run_job<I: Source, O: Sink>(
     alloc: Global,
     job: &Job,
@@ -88,26 +94,8 @@ fn run_job<I: Source, O: Sink>(
         (scene (supply (I.left input.old) (I.faults input.old)) (supply (I.left input.new) (I.faults input.new)) (input.new ≡ input.old)
         (O.account output.old) (O.account output.new) (output.new ≡ output.old)) }
 {
-    match job {
-        Job::Run(order) => run_input(alloc, order, input, output),
-    }
-}
-
-/// Reads an input to its end, and runs what it holds.
-fn run_input<I: Source, O: Sink>(
-    alloc: Global,
-    order: &RunOrder,
-    input: &mut I,
-    output: &mut O,
-) -> Result<Ending, Fault>
-    requires frames { order.now.frames ≤ MOST_FRAMES }
-    requires every { order.now.every ≤ MOST_SWEEPS }
-    ensures { DoesOver result (Ok (Job.Run order.now))
-        (scene (supply (I.left input.old) (I.faults input.old)) (supply (I.left input.new) (I.faults input.new)) (input.new ≡ input.old)
-        (O.account output.old) (O.account output.new) (output.new ≡ output.old)) }
-{
     match load(alloc, input, USUAL_LIMIT) {
-        Ok((loaded, kept)) => run_loaded(loaded, &kept, order, output),
+        Ok((loaded, kept)) => do_accepted(alloc, job, loaded, &kept, output),
         Err(LoadFault::Refused(refused)) => Ok(Ending::BadFile(refused)),
         Err(LoadFault::TooLong) => Ok(Ending::TooLong(USUAL_LIMIT)),
         Err(LoadFault::ReadFault) => Err(Fault::Read),
@@ -115,28 +103,61 @@ fn run_input<I: Source, O: Sink>(
     }
 }
 
-/// Runs a file that was accepted.
-fn run_loaded<O: Sink>(
+/// Does a job with a file that was accepted.
+fn do_accepted<O: Sink>(
+    alloc: Global,
+    job: &Job,
     loaded: Loaded,
     kept: &[u8],
+    output: &mut O,
+) -> Result<Ending, Fault>
+    requires range { IsInRange job.now }
+    requires mcs { loaded.mcs ≤ GREATEST_MCS }
+    ensures { DoesAccepted result job.now loaded kept.now (O.account output.old) (O.account output.new) (output.new ≡ output.old) }
+{
+    match job {
+        Job::Run(order) => run_accepted(order, loaded, kept, output),
+        Job::Look { ask } => look_at_accepted(alloc, ask, &loaded, output),
+    }
+}
+
+/// Analyses a file that was accepted.
+fn look_at_accepted<O: Sink>(
+    alloc: Global,
+    ask: &Ask,
+    loaded: &Loaded,
+    output: &mut O,
+) -> Result<Ending, Fault>
+    ensures { (kept : List ℕ) → DoesAccepted result (Job.Look ask.now) loaded.now kept (O.account output.old) (O.account output.new) (output.new ≡ output.old) }
+{
+    match analyse(alloc, loaded, ask, output) {
+        Ok(()) => Ok(Ending::Answered),
+        Err(AskFault::WriteFault) => Err(Fault::Write),
+        Err(AskFault::Memory) => Err(Fault::Memory),
+    }
+}
+
+/// Runs a file that was accepted.
+fn run_accepted<O: Sink>(
     order: &RunOrder,
+    loaded: Loaded,
+    kept: &[u8],
     output: &mut O,
 ) -> Result<Ending, Fault>
     requires frames { order.now.frames ≤ MOST_FRAMES }
     requires every { order.now.every ≤ MOST_SWEEPS }
     requires mcs { loaded.mcs ≤ GREATEST_MCS }
-    ensures agrees { Agrees result (run_outcome loaded order.now kept.now) }
-    ensures read { IsAfterReading result }
-    ensures writes { Writes result (run_outcome loaded order.now kept.now).output (O.account output.old) (O.account output.new) (output.new ≡ output.old) }
+    ensures { DoesAccepted result (Job.Run order.now) loaded kept.now (O.account output.old) (O.account output.new) (output.new ≡ output.old) }
 {
     let (kept_length, skipped) = (loaded.kept, loaded.skipped);
     match run(loaded, kept, order, output) {
-        Ok(done) => Ok(Ending::Done(RunReport {
+        Ok(done) => Ok(Ending::Ran(RunReport {
             kept: kept_length,
             frames: order.frames,
             mcs: done.mcs,
             skipped,
             accepted: done.accepted,
+            verdict: done.verdict,
         })),
         Err(RunFault::TooFar { mcs, reach }) => Ok(Ending::TooFar { mcs, reach }),
         Err(RunFault::WriteFault) => Err(Fault::Write),

@@ -1,28 +1,30 @@
 use Rattle.std.proofs.Common.{◌≡◌, Ok, refl, sym, ap, ◌∙◌, subst, arith, List, ℕ}
-use Rattle.sweep_run.specs.Sweep.{begun_with}
-use Rattle.sweep_run.proofs.SweepLemmas.{IsValid-state}
-use Rattle.bfm_cli.specs.Outcome.{Outcome}
-use Rattle.bfm_cli.specs.Promise.{Agrees, Writes, HasValidStates}
-use Rattle.bfm_cli.proofs.OutcomeLemmas.{Holds-some, job_outcome-loaded, job_outcome-refused, job_outcome-long, job_outcome-words, Reads-after}
-use Rattle.bfm_cli.proofs.tool.run_input.Goals as goal
+use Rattle.crossing_check.specs.declared.judgement.SetVerdict.TheVariants.{Free}
+use Rattle.bfm_cli.specs.Outcome.{Outcome, JudgesSet}
+use Rattle.bfm_cli.specs.Promise.{Agrees, Writes}
+use Rattle.bfm_cli.proofs.OutcomeLemmas.{Holds-some, HasValidRun-loaded, job_outcome-loaded, job_outcome-refused, job_outcome-long, job_outcome-words, Reads-after}
+use Rattle.bfm_cli.specs.declared.ending.Ending.TheVariants.{BadFile}
+use Rattle.bfm_cli.proofs.tool.run_job.Goals as goal
 
 pub returns-in-Ok : goal.returns-in-Ok
 returns-in-Ok g c =
-    let order = c.args.order.now in
+    let job = c.args.job.now in
     let loaded = c.in-Ok.loaded in
     let read = c.in-Ok.ensures.loaded in
-    let judged = read.1 in
-    let same = job_outcome-loaded order read.0 _ _ judged.within read.2 (c.deref.ensures.value ∙ read.3) in
-    let write = λ (outcome : Outcome). Writes c.run_loaded.result outcome.output (g.O.Sink.account c.args.output.now) (g.O.Sink.account c.run_loaded.new.output) (c.run_loaded.new.output ≡ c.args.output.now) in
+    let did = c.do_accepted.ensures in
+    let same = job_outcome-loaded job read.0 _ _ did.verdict read.1.within read.2 (c.deref.ensures.value ∙ read.3) in
+    let write = λ (outcome : Outcome). Writes c.do_accepted.result outcome.output (g.O.Sink.account c.args.output.now) (g.O.Sink.account c.do_accepted.new.output) (c.do_accepted.new.output ≡ c.args.output.now) in
     record {
       bytes = read.0;
-      left = judged.all;
+      left = read.1.all;
+      verdict = did.verdict;
+      judged = λ begun. subst (JudgesSet did.verdict) (sym read.2) (did.judged begun);
       does = record {
-        agrees = subst (Agrees c.run_loaded.result) (sym same) c.run_loaded.ensures.agrees;
-        reads = Reads-after c.run_loaded.result _ _ _ c.run_loaded.ensures.read judged.read;
-        writes = subst write (sym same) c.run_loaded.ensures.writes;
+        agrees = subst (Agrees c.do_accepted.result) (sym same) did.agrees;
+        reads = Reads-after c.do_accepted.result _ _ _ did.read read.1.read;
+        writes = subst write (sym same) did.writes;
       };
-      states = λ _. subst (HasValidStates order) (sym read.2) (λ count a. IsValid-state order.seed loaded.mcs count a (begun_with loaded.world) c.in-Ok.ensures.valid);
+      states = λ _. HasValidRun-loaded job read.0 loaded c.in-Ok.ensures.valid read.2;
     }
 
 pub returns-in-Err-Refused : goal.returns-in-Err-Refused
@@ -32,8 +34,10 @@ returns-in-Err-Refused g c =
     record {
       bytes = stopped.0;
       left = judged.all;
+      verdict = Free;
+      judged = λ none. absurd none;
       does = record {
-        agrees = sym (ap (λ (o : Outcome). o.ending) (job_outcome-refused c.args.order.now stopped.0 _ judged.within stopped.2));
+        agrees = ap BadFile c.in-Err-Refused.refused-is ∙ sym (ap (λ (o : Outcome). o.ending) (job_outcome-refused c.args.job.now stopped.0 _ Free judged.within stopped.2));
         reads = (judged.read.calm, λ _. judged.read.end);
         writes = refl;
       };
@@ -46,8 +50,10 @@ returns-in-Err-TooLong g c =
     record {
       bytes = stopped.0;
       left = stopped.1;
+      verdict = Free;
+      judged = λ none. absurd none;
       does = record {
-        agrees = sym (ap (λ (o : Outcome). o.ending) (job_outcome-long c.args.order.now stopped.0 stopped.2));
+        agrees = sym (ap (λ (o : Outcome). o.ending) (job_outcome-long c.args.job.now stopped.0 Free stopped.2));
         reads = stopped.3;
         writes = refl;
       };
@@ -60,7 +66,9 @@ returns-in-Err-ReadFault g c =
     record {
       bytes = some.0;
       left = some.1;
-      does = record { agrees = job_outcome-words c.args.order.now some.0; reads = rw c.in-Err-ReadFault.field-0-is at c.in-Err-ReadFault.ensures.stopped; writes = refl };
+      verdict = Free;
+      judged = λ none. absurd none;
+      does = record { agrees = job_outcome-words c.args.job.now some.0 Free; reads = rw c.in-Err-ReadFault.field-0-is at c.in-Err-ReadFault.ensures.stopped; writes = refl };
       states = λ none. absurd none;
     }
 
@@ -70,6 +78,8 @@ returns-in-Err-Memory g c =
     record {
       bytes = some.0;
       left = some.1;
-      does = record { agrees = job_outcome-words c.args.order.now some.0; reads = rw c.in-Err-Memory.field-0-is at c.in-Err-Memory.ensures.stopped; writes = refl };
+      verdict = Free;
+      judged = λ none. absurd none;
+      does = record { agrees = job_outcome-words c.args.job.now some.0 Free; reads = rw c.in-Err-Memory.field-0-is at c.in-Err-Memory.ensures.stopped; writes = refl };
       states = λ none. absurd none;
     }

@@ -1,4 +1,5 @@
 use Rattle.std.proofs.Common.{◌∙◌, ◌≡◌, Err, refl, sym, ap, map, string_bytes}
+use Rattle.crossing_check.specs.declared.judgement.SetVerdict.TheVariants.{Free}
 use Rattle.bfm_cli.specs.Job.{job_of}
 use Rattle.bfm_cli.specs.Outcome.{Outcome, job_outcome}
 use Rattle.bfm_cli.proofs.OutcomeLemmas.{Holds-some}
@@ -11,6 +12,8 @@ returns-in-Err g c =
     record {
       bytes = some.0;
       left = some.1;
-      does = record { agrees = ap (λ job. (job_outcome job some.0).ending) (sym wrong); reads = refl; writes = refl };
+      verdict = Free;
+      judged = λ none. absurd none;
+      does = record { agrees = ap (λ job. (job_outcome job some.0 Free).ending) (sym wrong); reads = refl; writes = refl };
       states = λ none. absurd none;
     }
