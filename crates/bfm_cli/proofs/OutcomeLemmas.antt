@@ -103,7 +103,7 @@ HasValidRun-loaded (Run order) bytes loaded valid e =
     subst (HasValidStates order) (sym e) (λ count a. IsValid-state order.seed loaded.mcs count a (begun_with loaded.world) valid)
 
 -- what an ending behind the reading says of the input
-pub Reads-after : (ended : Result Ending Fault) (before after : Supply) (unread : Type 0) → IsAfterReading ended → ReadWhole before after → Reads ended before after unread
+Reads-after : (ended : Result Ending Fault) (before after : Supply) (unread : Type 0) → IsAfterReading ended → ReadWhole before after → Reads ended before after unread
 Reads-after (Ok (ends.Ran done)) before after unread a r = r
 Reads-after (Ok ends.Answered) before after unread a r = r
 Reads-after (Ok (ends.BadWords word)) before after unread a r = absurd a
@@ -112,7 +112,11 @@ Reads-after (Ok (ends.TooLong limit)) before after unread a r = absurd a
 Reads-after (Ok (ends.TooFar mcs reach)) before after unread a r = r
 Reads-after (Err faults.Read) before after unread a r = absurd a
 Reads-after (Err faults.Write) before after unread a r = r
-Reads-after (Err faults.Memory) before after unread a r = r.calm
+Reads-after (Err faults.Memory) before after unread a r = absurd a
+
+pub Reads-accepted : (ended : Result Ending Fault) (before after : Supply) (unread : Type 0) → IsAfterReading ended ⊎ (ended ≡ Err faults.Memory) → ReadWhole before after → Reads ended before after unread
+Reads-accepted ended before after unread (inl a) r = Reads-after ended before after unread a r
+Reads-accepted ended before after unread (inr e) r = subst (λ x. Reads x before after unread) (sym e) r.calm
 
 -- Wrong words come to nothing else.
 pub words-only : (ended : Result Ending Fault) (job : Result Job ℕ) (scene : Scene) → DoesOver ended job scene → IsErr job → (word : ℕ) × (ended ≡ Ok (ends.BadWords word))

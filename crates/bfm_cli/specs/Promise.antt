@@ -106,7 +106,7 @@ IsBegun (Err faults.Read) = ⊥
 IsBegun (Err faults.Write) = Unit {0}
 IsBegun (Err faults.Memory) = ⊥
 
--- what may come once a file was accepted
+-- what comes only once a file was accepted
 abbrev pub IsAfterReading : Result Ending Fault → Type 0
 IsAfterReading (Ok (ends.Ran done)) = Unit {0}
 IsAfterReading (Ok ends.Answered) = Unit {0}
@@ -116,25 +116,25 @@ IsAfterReading (Ok (ends.TooLong limit)) = ⊥
 IsAfterReading (Ok (ends.TooFar mcs reach)) = Unit {0}
 IsAfterReading (Err faults.Read) = ⊥
 IsAfterReading (Err faults.Write) = Unit {0}
-IsAfterReading (Err faults.Memory) = Unit {0}
+IsAfterReading (Err faults.Memory) = ⊥
 
 -- What a job did with an accepted file, of which this part is kept. Where it was begun, the verdict is one on the file's set.
 pub record DoesAccepted (ended : Result Ending Fault) (job : Job) (loaded : Loaded) (kept : List ℕ) (before after : Account) (unwritten : Type 0) : Type 0 where
   pub verdict : SetVerdict
   pub judged : IsBegun ended → IsVerdict loaded.world.set verdict
   pub agrees : Agrees ended (accepted_outcome job loaded kept verdict)
-  pub read : IsAfterReading ended
+  pub read : IsAfterReading ended ⊎ (ended ≡ Err faults.Memory)
   pub writes : Writes ended (accepted_outcome job loaded kept verdict).output before after unwritten
 
 -- All that was done for a job, over the bytes that the input had left. Where it was begun, the verdict is one on the file's
--- set, and each state of a run is valid.
+-- set. Each state of a run of an accepted file is valid.
 pub record DoesOver (ended : Result Ending Fault) (job : Result Job ℕ) (scene : Scene) : Type 0 where
   pub bytes : List ℕ
   pub left : Holds scene.input_before.left bytes
   pub verdict : SetVerdict
   pub judged : IsBegun ended → JudgesSetOf bytes verdict
   pub does : Does ended (job_outcome job bytes verdict) scene
-  pub states : IsBegun ended → HasValidRun job bytes
+  pub states : IsAfterReading ended → HasValidRun job bytes
 
 -- the report was made and flushed, or a prefix of it until a call failed
 abbrev pub Reports : Result Ending Fault → Status → Account → Account → Type 0

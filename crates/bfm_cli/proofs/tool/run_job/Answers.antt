@@ -2,7 +2,7 @@ use Rattle.std.proofs.Common.{◌≡◌, Ok, refl, sym, ap, ◌∙◌, subst, ar
 use Rattle.crossing_check.specs.declared.judgement.SetVerdict.TheVariants.{Free}
 use Rattle.bfm_cli.specs.Outcome.{Outcome, JudgesSet}
 use Rattle.bfm_cli.specs.Promise.{Agrees, Writes}
-use Rattle.bfm_cli.proofs.OutcomeLemmas.{Holds-some, HasValidRun-loaded, job_outcome-loaded, job_outcome-refused, job_outcome-long, job_outcome-words, Reads-after}
+use Rattle.bfm_cli.proofs.OutcomeLemmas.{Holds-some, HasValidRun-loaded, job_outcome-loaded, job_outcome-refused, job_outcome-long, job_outcome-words, Reads-accepted}
 use Rattle.bfm_cli.specs.declared.ending.Ending.TheVariants.{BadFile}
 use Rattle.bfm_cli.proofs.tool.run_job.Goals as goal
 
@@ -21,7 +21,7 @@ returns-in-Ok g c =
       judged = λ begun. subst (JudgesSet did.verdict) (sym read.2) (did.judged begun);
       does = record {
         agrees = subst (Agrees c.do_accepted.result) (sym same) did.agrees;
-        reads = Reads-after c.do_accepted.result _ _ _ did.read read.1.read;
+        reads = Reads-accepted c.do_accepted.result _ _ _ did.read read.1.read;
         writes = subst write (sym same) did.writes;
       };
       states = λ _. HasValidRun-loaded job read.0 loaded c.in-Ok.ensures.valid read.2;
