@@ -3,10 +3,9 @@ use Rattle.std.proofs.Common.{◌≡◌, ℕ, ◌+◌, ◌≤◌, Bool, true, fa
 use Rattle.std.proofs.lemmas.Bool.Decides.{nat_tests}
 use Rattle.std.specs.Str.{bytes_eq}
 use Rattle.bfm_lexer.specs.Numbers.{natural_of}
-use Rattle.bfm_session.specs.declared.analysis.Ask.{Ask}
 use Rattle.bfm_session.specs.declared.order.RunOrder.{RunOrder}
 use Rattle.bfm_cli.specs.Words.{Key, within, name_in, value_in, given, given_by, number_for}
-use Rattle.bfm_cli.specs.Job.{IsInRange, look_of, order_of, run_of, seed_key, frames_key, every_key}
+use Rattle.bfm_cli.specs.Job.{IsInRange, order_of, run_of, seed_key, frames_key, every_key}
 use Rattle.bfm_cli.specs.declared.job.Job.{Job}
 use Rattle.bfm_cli.specs.declared.job.Job.TheVariants.{Run, Look}
 
@@ -63,10 +62,3 @@ pub run_of-ranges : (r : Result Job ℕ) (words : List (List ℕ)) (wrong : Opti
 run_of-ranges (Ok (Run order)) words wrong e = run_of-range words wrong order (sym e)
 run_of-ranges (Ok (Look ask)) words wrong e = tt
 run_of-ranges (Err word) words wrong e = tt
-
--- those of an analysis too, which has none
-pub look_of-ranges : (r : Result Job ℕ) (ask : Ask) (words : List (List ℕ)) → r ≡ look_of ask words → IfOk r IsInRange
-look_of-ranges (Ok (Look asked)) ask words e = tt
-look_of-ranges (Ok (Run order)) ask [] e = absurd (cc)
-look_of-ranges (Ok (Run order)) ask (word ∷ words) e = absurd (cc)
-look_of-ranges (Err word) ask words e = tt

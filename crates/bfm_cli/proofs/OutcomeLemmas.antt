@@ -13,8 +13,7 @@ use Rattle.bfm_session.specs.Loading.{Holds, Supply, ReadWhole}
 use Rattle.bfm_session.specs.Running.{is_too_far, last_mcs, last_reach, run_done, run_text}
 use Rattle.bfm_session.specs.declared.order.RunOrder.{RunOrder}
 use Rattle.bfm_cli.specs.Ending.{status_of}
-use Rattle.bfm_cli.specs.Outcome.{JudgesSetOf, nothing, run_report, accepted_outcome, file_outcome, job_outcome}
-use Rattle.std.specs.Io.KnownBytes.{Appends}
+use Rattle.bfm_cli.specs.Outcome.{nothing, run_report, accepted_outcome, file_outcome, job_outcome}
 use Rattle.bfm_base.specs.Account.{Account}
 use Rattle.bfm_base.specs.Faults.{Rose}
 use Rattle.bfm_cli.specs.Promise.{Reads, IsAfterReading, DoesOver, HasValidRun, HasValidStates, Scene, Tells}

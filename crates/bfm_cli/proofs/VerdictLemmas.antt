@@ -1,11 +1,11 @@
 -- Two verdicts on one set differ in their weights alone.
-use Rattle.std.proofs.Common.{◌≡◌, ℕ, ℤ, pos, ◌<ℤ◌, List, [], ◌∷◌, length, Result, Ok, Err, IfOk, Some, inl, inr, refl, sym, ap, subst, ◌∙◌, arith}
+use Rattle.std.proofs.Common.{◌≡◌, ℕ, ℤ, pos, List, [], ◌∷◌, length, Result, Ok, Err, IfOk, inl, inr, refl, sym, ap, ◌∙◌, arith}
 use Rattle.std.proofs.lemmas.Int.{ints, by_lt_z}
 use Rattle.bfm_base.specs.declared.cause.Refused.{Refused}
 use Rattle.bfm_base.specs.declared.place.P3.{P3}
 use Rattle.bfm_base.specs.declared.place.Dir.{Dir}
 use Rattle.bfm_geom.proofs.DifferenceLemmas.{P3-same}
-use Rattle.bond_set.specs.Crossing.{IsFirstCrossing, Precedes, rank_of, place_of, direction_number}
+use Rattle.bond_set.specs.Crossing.{IsFirstCrossing, Precedes, rank_of}
 use Rattle.crossing_check.specs.Verdict.{IsVerdict}
 use Rattle.crossing_check.specs.declared.judgement.SetVerdict.{SetVerdict}
 use Rattle.crossing_check.specs.declared.judgement.SetVerdict.TheVariants.{Free, Crossing}

@@ -1,5 +1,5 @@
 -- What words call for over the bytes of an input: a function of both, and of the verdict on the set of an accepted file.
-use Rattle.std.specs.Prelude.{◌≡◌, ℕ, nat_lt, List, [], length, take, Option, None, Some, Result, Ok, Err, if◌then◌else◌}
+use Rattle.std.specs.Prelude.{ℕ, nat_lt, List, [], length, take, Option, None, Some, Result, Ok, Err, if◌then◌else◌}
 use Rattle.bfm_base.specs.declared.place.P3.{P3}
 use Rattle.bfm_base.specs.declared.place.Dir.{Dir}
 use Rattle.bfm_base.specs.declared.cause.Refused.{Refused}

@@ -1,8 +1,7 @@
 use Rattle.std.proofs.Common.{[], map, string_bytes}
 use Rattle.bfm_cli.specs.Job.{run_keys}
 use Rattle.bfm_cli.specs.Words.{first_wrong}
-use Rattle.bfm_session.specs.declared.analysis.Ask.TheVariants.{Check}
-use Rattle.bfm_cli.proofs.JobLemmas.{look_of-ranges, run_of-ranges}
+use Rattle.bfm_cli.proofs.JobLemmas.{run_of-ranges}
 use Rattle.bfm_cli.proofs.job.job_of.Goals as goal
 
 pub returns-then-eq-clause-ranges : goal.returns-then-eq-clause-ranges

@@ -1,4 +1,4 @@
-use Rattle.std.proofs.Common.{◌≡◌, Ok, refl, sym, ap, ◌∙◌, subst, arith, List, ℕ}
+use Rattle.std.proofs.Common.{◌≡◌, refl, sym, ap, ◌∙◌, subst}
 use Rattle.crossing_check.specs.declared.judgement.SetVerdict.TheVariants.{Free}
 use Rattle.bfm_cli.specs.Outcome.{Outcome, JudgesSet}
 use Rattle.bfm_cli.specs.Promise.{Agrees, Writes}
