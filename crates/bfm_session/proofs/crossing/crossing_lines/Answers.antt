@@ -1,4 +1,4 @@
-use Rattle.std.proofs.Common.{[], ◌∷◌, ◌++◌, sym, subst}
+use Rattle.std.proofs.Common.{[], ◌∷◌, sym, subst}
 use Rattle.std.proofs.lemmas.Result.{err_from_is_err_and}
 use Rattle.bfm_base.specs.Account.{Sends, TookAll, TookPrefix}
 use Rattle.bfm_base.specs.declared.place.P3.{P3}
