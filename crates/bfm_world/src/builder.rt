@@ -237,6 +237,17 @@ impl WorldBuilder {
         let WorldBuilder { parts, .. } = self;
         World::of_parts(parts)
     }
+
+    /// The world with these positions in place of those that were given, where they make it valid.
+    pub fn finish_at(self, positions: Vec<P3>) -> World
+        requires valid { IsValid (with_positions self positions.items).world }
+        requires reach { reach_of positions.items ≤ WORLD_REACH }
+        ensures world { result ≡ (with_positions self positions.items).world }
+        ensures valid { IsValid result }
+    {
+        let WorldBuilder { parts, .. } = self;
+        World::of_parts(Parts { positions, ..parts })
+    }
 }
 
 /// Frees the cubes of these monomers, which are all that there are.
