@@ -15,7 +15,8 @@ use Rattle.bfm_world.specs.Configuration.{Configuration, IsSound, is_clear, keep
 use Rattle.bfm_world.specs.Draft.{Draft, with_positions, with_bonds, place_refusal, may_join, join_answer}
 use Rattle.bfm_world.proofs.BondLemmas.{has, test-eq, eq-test, and_left, and_right}
 use Rattle.bfm_commands.specs.History.{with_pair, with_pairs, chain}
-use Rattle.bfm_commands.specs.Causes.{some_fails, is_apart, is_bonded_well, placing_cause, is_overfull}
+use Rattle.bfm_commands.specs.Causes.{some_fails, is_apart, is_bonded_well, is_overfull}
+use Rattle.bfm_commands.specs.Placing.{placing_cause}
 use Rattle.bfm_commands.proofs.PairLemmas.{with_pairs-overfull, not_overfull, Joined, joined}
 
 -- the test of a position in a list, after those before it

@@ -1,69 +1,81 @@
--- A text and its first line.
-use Rattle.std.proofs.Common.{◌≡◌, ℕ, true, false, cond, List, [], ◌∷◌, ◌++◌, Option, None, Some, MatchOption, is_some, refl, ap, subst, inl, inr}
-use Rattle.std.specs.Option.{option_map}
-use Rattle.std.specs.Prelude.{◌==◌}
-use Rattle.std.proofs.lemmas.Bool.Decides.{eqb_tells}
-use Rattle.bfm_lexer.specs.Lines.{finished_lines, begun}
-use Rattle.bfm_commands.specs.Numbers.{split_once}
+-- A frame line that has been read, and its causes.
+use Rattle.std.proofs.Common.{◌≡◌, ℕ, ◌+◌, ◌<◌, ◌≤◌, Bool, true, false, cond, List, [], ◌∷◌, length, drop, take, Option, None, Some, is_some, Ok, Err, nat_lt, refl, ap, sym, ◌∙◌, arith, length-append}
+use Rattle.std.specs.List.{list_all}
+use Rattle.std.proofs.lemmas.Bool.Decides.{nat_tests}
+use Rattle.std.proofs.lemmas.List.{drop_at, take_at}
+use Rattle.bfm_base.specs.declared.place.P3.{P3}
+use Rattle.bfm_base.specs.declared.cause.Cause.{Cause}
+use Rattle.bfm_base.specs.declared.cause.Cause.TheVariants.{UnknownId, FrameLong, Outside, Overlap, BadBond, TooManyBonds, BondUnknown}
+use Rattle.bond_set.specs.BondSet.{vector_of}
+use Rattle.bfm_world.specs.Configuration.{may_bond, position_at}
+use Rattle.bfm_world.specs.Draft.{Draft, with_bonds}
+use Rattle.bfm_commands.specs.Forms.{frame_line}
+use Rattle.bfm_commands.specs.History.{string_positions, line_positions, given_in, walk, with_pairs, chain}
+use Rattle.bfm_commands.specs.Causes.{least, entered, string_cause, frame_cause, is_overfull, some_unbonded}
+use Rattle.bfm_commands.specs.Placing.{placing_cause, or_else, positions_cause, later_cause}
+use Rattle.bfm_commands.specs.Reading.{IsLineBegun}
+use Rattle.bfm_commands.proofs.WalkLemmas.{length-walk, steps-behind}
 
-abbrev Parts : Type 0
-Parts = List ℕ × List ℕ
+-- causes of a line whose identifiers are known and which is not too long
+least-placing : (a b c d e : Bool)
+    → least ((UnknownId, false) ∷ (FrameLong, false) ∷ (Outside, a) ∷ (Overlap, b) ∷ (BadBond, c) ∷ (TooManyBonds, d) ∷ (BondUnknown, e) ∷ [])
+    ≡ or_else (cond a (Some Outside) (cond b (Some Overlap) (cond c (Some BadBond) None))) (cond d (Some TooManyBonds) (cond e (Some BondUnknown) None))
+least-placing true b c d e = refl
+least-placing false true c d e = refl
+least-placing false false true d e = refl
+least-placing false false false d e = refl
 
--- the lines are a first one and those of the rest, or none
-abbrev pub HasFirst : List (List ℕ) → Option (List ℕ × List ℕ) → Type 0
-HasFirst lines None = lines ≡ []
-HasFirst lines (Some parts) = lines ≡ parts.0 ∷ finished_lines parts.1
+-- ---- a line that is refused at once
+pub frame_cause-form : (first : Bool) (draft : Draft) (text : List ℕ) (cause : Cause) → frame_line text ≡ Err cause → frame_cause first draft text ≡ Some cause
+frame_cause-form first draft text cause e = ap (entered (string_cause first draft)) e
 
-abbrev grown : ℕ → Option (List ℕ × List ℕ) → Option (List ℕ × List ℕ)
-grown b parts = option_map (λ (p : Parts). (b ∷ p.0, p.1)) parts
+pub frame_cause-unknown : (first : Bool) (draft : Draft) (text : List ℕ) (line : P3 × List ℕ) → frame_line text ≡ Ok line → list_all (λ id. is_some (vector_of draft.world.set id)) line.1 ≡ false
+    → frame_cause first draft text ≡ Some UnknownId
+frame_cause-unknown first draft text line e unknown = ap (entered (string_cause first draft)) e ∙ rw unknown refl
 
-begun_line : (b : ℕ) (bs : List ℕ) (parts : Option (List ℕ × List ℕ)) → HasFirst (finished_lines bs) parts → HasFirst (begun b (finished_lines bs)) (grown b parts)
-begun_line b bs None h = ap (begun b) h
-begun_line b bs (Some p) h = ap (begun b) h
+pub frame_cause-long : (first : Bool) (draft : Draft) (text : List ℕ) (line : P3 × List ℕ) → frame_line text ≡ Ok line → list_all (λ id. is_some (vector_of draft.world.set id)) line.1 ≡ true
+    → draft.count < length draft.world.positions + 1 + length line.1 → frame_cause first draft text ≡ Some FrameLong
+frame_cause-long first draft text line e known long =
+    let more : nat_lt draft.count (length draft.world.positions + 1 + length line.1) ≡ true = grind (arith, nat_tests) in
+    ap (entered (string_cause first draft)) e ∙ rw (known, more) refl
 
--- the first newline ends the first line
-pub first_line : (text : List ℕ) → HasFirst (finished_lines text) (split_once 10 text)
-first_line [] = refl
-first_line (b ∷ bs) =
-    elim (b == 10) as (λ t. HasFirst (cond t ([] ∷ finished_lines bs) (begun b (finished_lines bs))) (cond t (Some ([], bs)) (grown b (split_once 10 bs)))) [
-      | true ↦ refl
-      | false ↦ begun_line b bs (split_once 10 bs) (first_line bs)
-    ]
+-- ---- a line that has begun
+module _ (draft : Draft) (text : List ℕ) (list : List P3) (b : IsLineBegun draft text list) where
+  abbrev ps : List P3
+  ps = string_positions draft.world.set b.line
 
--- the parts and the byte between them are the text
-abbrev pub Rejoins : ℕ → List ℕ → Option (List ℕ × List ℕ) → Type 0
-Rejoins c text None = Unit {0}
-Rejoins c text (Some parts) = text ≡ (parts.0 ++ c ∷ []) ++ parts.1
+  pub count-list : length list ≡ length draft.world.positions + 1 + length b.line.1
+  count-list = omega (arith, ap length b.positions, length-append draft.world.positions ps, length-walk draft.world.set b.line.0 b.line.1)
 
-grown_text : (b c : ℕ) (bs : List ℕ) (parts : Option (List ℕ × List ℕ)) → Rejoins c bs parts → Rejoins c (b ∷ bs) (grown b parts)
-grown_text b c bs None h = tt
-grown_text b c bs (Some p) h = ap (λ l. b ∷ l) h
+  pub drop-begun : drop (length draft.world.positions) list ≡ string_positions draft.world.set b.line
+  drop-begun = ap (drop (length draft.world.positions)) b.positions ∙ drop_at draft.world.positions ps (length draft.world.positions) refl
 
-pub rejoined : (c : ℕ) (text : List ℕ) → Rejoins c text (split_once c text)
-rejoined c [] = tt
-rejoined c (b ∷ bs) =
-    elim (eqb_tells b c) [
-      | inl e ↦ rw e.0 (ap (λ x. x ∷ bs) e.1)
-      | inr n ↦ rw n.0 (grown_text b c bs (split_once c bs) (rejoined c bs))
-    ]
+  pub take-begun : take (length draft.world.positions) list ≡ draft.world.positions
+  take-begun = ap (take (length draft.world.positions)) b.positions ∙ take_at draft.world.positions ps (length draft.world.positions) refl
 
--- what `next_line` says of the parts that it was given
-pub first_line_at : (text : List ℕ) (parts : Option (List ℕ × List ℕ)) → split_once 10 text ≡ parts → HasFirst (finished_lines text) parts
-first_line_at text parts e = subst (HasFirst (finished_lines text)) e (first_line text)
+  pub line_positions-begun : line_positions draft.world.set (given_in frame_line (Some text)) ≡ string_positions draft.world.set b.line
+  line_positions-begun = rw b.form refl
 
-pub rejoined_at : (c : ℕ) (text : List ℕ) (parts : Option (List ℕ × List ℕ)) → split_once c text ≡ parts → Rejoins c text parts
-rejoined_at c text parts e = subst (Rejoins c text) e (rejoined c text)
+  pub steps-begun : (k : ℕ) → length draft.world.positions ≤ k → k + 1 < length list → may_bond draft.world.shape draft.world.set (position_at list k) (position_at list (k + 1)) ≡ true
+  steps-begun = steps-behind draft.world.shape draft.world.set draft.world.positions list b.line b.sound.box b.sound.set b.known b.positions
 
--- a clause by cases, from a stronger one
-pub MatchOption-weaker : {X : Type 0} (r : Option X) {P P' : Type 0} {Q Q' : X → Type 0} → MatchOption r P Q → (P → P') → ((x : X) → Q x → Q' x) → MatchOption r P' Q'
-MatchOption-weaker None h f g = f h
-MatchOption-weaker (Some x) h f g = g x h
+  fits : nat_lt draft.count (length draft.world.positions + 1 + length b.line.1) ≡ false
+  fits = let l = b.room in let m = count-list in grind (arith, nat_tests)
 
--- the cases of an option by its test
-pub MatchOption-if_some : {X : Type 0} (r : Option X) (P : Type 0) (Q : X → Type 0) → is_some r ≡ true → MatchOption r P Q → (x : X) × Q x
-MatchOption-if_some None P Q e h = absurd (cc)
-MatchOption-if_some (Some x) P Q e h = (x, h)
+  number : length (walk draft.world.set b.line.0 b.line.1) ≡ length b.line.1
+  number = length-walk draft.world.set b.line.0 b.line.1
 
-pub MatchOption-if_none : {X : Type 0} (r : Option X) (P : Type 0) (Q : X → Type 0) → is_some r ≡ false → MatchOption r P Q → P
-MatchOption-if_none None P Q e h = h
-MatchOption-if_none (Some x) P Q e h = absurd (cc)
+  pub frame_cause-first : frame_cause true draft text ≡ positions_cause draft (string_positions draft.world.set b.line)
+  frame_cause-first =
+      let w = draft.world in
+      let bonds : ℕ → List (List ℕ) = λ n. with_pairs w.bonds (chain (length w.positions) n) in
+      let cause : ℕ → Option Cause = λ n. or_else (placing_cause (with_bonds draft (bonds n)).world ps) (cond (is_overfull (bonds n)) (Some TooManyBonds) None) in
+      ap (entered (string_cause true draft)) b.form
+      ∙ (rw (b.known, fits) (least-placing _ _ _ _ false) ∙ ap cause (sym number))
+
+  pub frame_cause-later : frame_cause false draft text ≡ later_cause draft (string_positions draft.world.set b.line)
+  frame_cause-later =
+      let w = draft.world in
+      let cause : ℕ → Option Cause = λ n. or_else (placing_cause w ps) (cond (some_unbonded w.bonds (chain (length w.positions) n)) (Some BondUnknown) None) in
+      ap (entered (string_cause false draft)) b.form
+      ∙ (rw (b.known, fits) (least-placing _ _ _ false (some_unbonded w.bonds (chain (length w.positions) (length b.line.1)))) ∙ ap cause (sym number))

@@ -1,6 +1,6 @@
 -- What a frame line adds, and its causes. The line's own successive monomers are bonded by vectors of the set, so that
 -- its positions are judged alike with those bonds and without them.
-use Rattle.std.proofs.Common.{◌≡◌, ◌≢◌, ℕ, zero, suc, ◌+◌, ◌-◌, ◌<◌, ◌≤◌, Bool, true, false, cond, inl, inr, ◌⊎◌, List, ◌∷◌, ◌++◌, length, take, drop, get_or, pos, Option, None, Some, refl, ap, sym, ◌∙◌, subst, arith, length-drop, length-take}
+use Rattle.std.proofs.Common.{◌≡◌, ◌≢◌, ℕ, zero, suc, ◌+◌, ◌-◌, ◌<◌, ◌≤◌, Bool, true, false, cond, not, ◌||◌, inl, inr, ◌⊎◌, List, ◌∷◌, ◌++◌, length, take, drop, get_or, pos, Option, None, Some, refl, ap, sym, ◌∙◌, subst, arith, length-drop, length-take}
 use Rattle.std.proofs.Math.Seq.{drop-cons}
 use Rattle.std.proofs.lemmas.List.{get_or-take, take-append-drop}
 use Rattle.std.proofs.lemmas.Option.{slice_get-get_or, slice_get_past}
@@ -8,15 +8,16 @@ use Rattle.std.specs.List.{list_all}
 use Rattle.std.specs.Prelude.{slice_get}
 use Rattle.bfm_base.specs.declared.place.P3.{P3}
 use Rattle.bfm_base.specs.declared.cause.Cause.{Cause}
-use Rattle.bfm_base.specs.declared.cause.Cause.TheVariants.{Outside, Overlap, BadBond, TooManyBonds}
+use Rattle.bfm_base.specs.declared.cause.Cause.TheVariants.{Outside, Overlap, BadBond, TooManyBonds, BondUnknown}
 use Rattle.bfm_world.specs.Bonds.{neighbours_of, are_bonded, with_bond}
 use Rattle.bfm_geom.specs.Walls.{is_within_walls}
 use Rattle.bfm_world.specs.Configuration.{IsSound, may_bond, may_reach, position_at}
 use Rattle.bfm_world.specs.Draft.{Draft, with_positions, with_bonds}
 use Rattle.bfm_world.proofs.BondLemmas.{has, AreTheTwo, as_named, turned, still_bonded, was_bonded}
 use Rattle.bfm_world.proofs.VectorLemmas.{may_bond-turned}
-use Rattle.bfm_commands.specs.History.{with_pair, with_pairs, with_line, chain}
-use Rattle.bfm_commands.specs.Causes.{some_fails, is_apart, is_bonded_well, placing_cause, positions_cause, or_else, is_overfull}
+use Rattle.bfm_commands.specs.History.{with_pair, with_pairs, chain}
+use Rattle.bfm_commands.specs.Placing.{placing_cause, positions_cause, later_cause, or_else, with_line, with_later_line, line_pairs}
+use Rattle.bfm_commands.specs.Causes.{some_fails, is_apart, is_bonded_well, is_overfull, some_unbonded}
 use Rattle.bfm_commands.proofs.PairLemmas.{length-with_pair}
 use Rattle.bfm_commands.proofs.FrameLemmas.{passes_at, some_fails-same, all_at, all_from, same_truth}
 
@@ -148,3 +149,41 @@ module _ (draft : Draft) (ps : List P3) (n : ℕ) (sound : IsSound draft.count d
 
     pub LineOutcome-err : is_overfull (with_pairs placed.world.bonds pairs) ≡ true → positions_cause draft (drop n ps) ≡ Some TooManyBonds
     LineOutcome-err h = cause_by_parts None true none (bonds_are true h)
+
+-- ---- whether some of successive monomers is not bonded to the next
+pub some_unbonded-none : (bonds : List (List ℕ)) (k n : ℕ) → ((j : ℕ) → k ≤ j → j < k + n → are_bonded bonds j (j + 1) ≡ true) → some_unbonded bonds (chain k n) ≡ false
+some_unbonded-none bonds k zero h = refl
+some_unbonded-none bonds k (suc n) h =
+    ap (λ b. not b || some_unbonded bonds (chain (k + 1) n)) (h k (omega arith) (omega arith)) ∙ some_unbonded-none bonds (k + 1) n (λ j a b. h j (omega arith) (omega arith))
+
+or_true : (a : Bool) → (a || true) ≡ true
+or_true true = refl
+or_true false = refl
+
+unbonded_behind : (bonds : List (List ℕ)) (k n i : ℕ) → i < n → are_bonded bonds (k + i) (k + i + 1) ≡ false → some_unbonded bonds (chain k n) ≡ true
+unbonded_behind bonds k zero i l h = absurd (omega arith)
+unbonded_behind bonds k (suc n) zero l h =
+    ap (λ b. not b || some_unbonded bonds (chain (k + 1) n)) (subst (λ j. are_bonded bonds j (j + 1) ≡ false) (omega arith) h)
+unbonded_behind bonds k (suc n) (suc i) l h =
+    ap (λ b. not (are_bonded bonds k (k + 1)) || b) (unbonded_behind bonds (k + 1) n i (omega arith) (subst (λ j. are_bonded bonds j (j + 1) ≡ false) (omega arith) h))
+    ∙ or_true (not (are_bonded bonds k (k + 1)))
+
+pub some_unbonded-at : (bonds : List (List ℕ)) (k n j : ℕ) → k ≤ j → j < k + n → are_bonded bonds j (j + 1) ≡ false → some_unbonded bonds (chain k n) ≡ true
+some_unbonded-at bonds k n j l m h = unbonded_behind bonds k n (j - k) (omega arith) (subst (λ i. are_bonded bonds i (i + 1) ≡ false) (omega arith) h)
+
+-- ---- a line of a later frame, whose positions stand behind those of a draft
+module _ (draft : Draft) (ps : List P3) (n : ℕ) (front : draft.world.positions ≡ take n ps) (some : n < length ps) where
+  line_pairs-whole : line_pairs draft (drop n ps) ≡ chain n (length ps - 1 - n)
+  line_pairs-whole =
+      let count : length draft.world.positions ≡ n = omega (arith, ap length front, length-take n ps) in
+      let left : length (drop (suc n) ps) ≡ length ps - 1 - n = omega (arith, length-drop (suc n) ps) in
+      ap (line_pairs draft) (drop-cons ps n zero_place some) ∙ (ap (λ m. chain m (length (drop (suc n) ps))) count ∙ ap (chain n) left)
+
+  pub with_later_line-whole : with_later_line draft (drop n ps) ≡ with_positions draft ps
+  with_later_line-whole = ap (with_positions draft) (ap (λ qs. qs ++ drop n ps) front ∙ take-append-drop n ps)
+
+  pub later_cause-parts : (first : Option Cause) (apart : Bool) → placing_cause draft.world (drop n ps) ≡ first → some_unbonded draft.world.bonds (chain n (length ps - 1 - n)) ≡ apart
+      → later_cause draft (drop n ps) ≡ or_else first (cond apart (Some BondUnknown) None)
+  later_cause-parts first apart h k =
+      ap (λ pairs. or_else (placing_cause draft.world (drop n ps)) (cond (some_unbonded draft.world.bonds pairs) (Some BondUnknown) None)) line_pairs-whole
+      ∙ (ap (λ o. or_else o (cond (some_unbonded draft.world.bonds (chain n (length ps - 1 - n))) (Some BondUnknown) None)) h ∙ ap (λ b. or_else first (cond b (Some BondUnknown) None)) k)

@@ -1,37 +1,135 @@
 -- Why a line is wrong after the finished lines before it, which come newest first: the least-numbered cause.
-use Rattle.std.specs.Prelude.{ℕ, ◌+◌, ◌*◌, Bool, false, not, ◌&&◌, ◌||◌, ◌==◌, nat_lt, nat_le, List, [], ◌∷◌, ◌++◌, length, Option, None, Some, is_some, Result, Ok, Err, if◌then◌else◌}
+use Rattle.std.specs.Prelude.{ℕ, ◌+◌, ◌*◌, Bool, true, false, not, ◌&&◌, ◌||◌, nat_lt, ℤ, List, [], ◌∷◌, ◌++◌, length, Option, None, Some, is_some, is_none, Result, Ok, Err, if◌then◌else◌}
 use Rattle.std.specs.List.{list_any, list_all}
-use Rattle.bfm_base.specs.declared.limits.TheConstants.{MOST_SITES, MOST_BONDS}
+use Rattle.bfm_base.specs.declared.limits.TheConstants.{MOST_SITES, MOST_BONDS, GREATEST_MCS}
 use Rattle.bfm_base.specs.declared.place.P3.{P3}
 use Rattle.bfm_base.specs.declared.cause.Cause.{Cause}
-use Rattle.bfm_base.specs.declared.cause.Cause.TheVariants.{OutOfLimit, NotSymmetric, UnknownId, FrameLong, Outside, Overlap, BadMonomer, BadBond, TooManyBonds, Unbuilt}
+use Rattle.bfm_base.specs.declared.cause.Cause.TheVariants.{BadLine, OutOfLimit, Repeated, NotSymmetric, UnknownId, FrameLong, FrameShort, Missing, Misplaced, McsOrder, Outside, Overlap, BadMonomer, BadBond, TooManyBonds, BondUnknown, Unbuilt}
 use Rattle.bond_set.specs.BondSet.{refusal_of, vector_of, first_unpaired}
-use Rattle.bfm_world.specs.Bonds.{neighbours_of}
+use Rattle.bfm_world.specs.Bonds.{neighbours_of, are_bonded}
 use Rattle.bfm_geom.specs.Walls.{is_within_walls}
 use Rattle.bfm_world.specs.Configuration.{Configuration, is_clear, keeps_bonds}
-use Rattle.bfm_world.specs.Draft.{Draft, with_bonds}
-use Rattle.bfm_lexer.specs.Lines.{without_return, is_long}
-use Rattle.bfm_commands.specs.Numbers.{given}
-use Rattle.bfm_commands.specs.Entries.{vector_entry, bond_entry, frame_line}
-use Rattle.bfm_commands.specs.History.{setting_at, value_at, count_of, opened_by, section_of, set_of, pairs_of, listed_bonds, string_positions, with_line, draft_of}
-use Rattle.bfm_commands.specs.declared.section.Section.{Section}
-use Rattle.bfm_commands.specs.declared.section.Section.TheVariants.{Head, Vectors, Bonds, Frame}
+use Rattle.bfm_world.specs.Draft.{Draft}
+use Rattle.bfm_lexer.specs.Lines.{is_long}
+use Rattle.bfm_lexer.specs.Kinds.{is_bare}
+use Rattle.bfm_commands.specs.Forms.{value_number, natural_within, vector_entry, pair_entry, frame_line}
+use Rattle.bfm_commands.specs.Meaning.{Meaning, nothing, command, entry, meaning_of, role_of}
+use Rattle.bfm_commands.specs.History.{History, has_begun, owner_of, natural_in, given_of, stands, value_in, count_in, set_of, pairs_of, with_pairs, listed_bonds, string_positions, mcs_of, is_first_frame, is_whole, draft_of, chain}
+use Rattle.bfm_commands.specs.declared.commands.Known.{Known}
+use Rattle.bfm_commands.specs.declared.commands.Known.TheVariants.{NumberOfMonomers, BoxX, BoxY, BoxZ, PeriodicX, PeriodicY, PeriodicZ, SetOfBondVectors, Bonds, Mcs}
+use Rattle.bfm_commands.specs.declared.role.Role.{Role}
+use Rattle.bfm_commands.specs.declared.role.Role.TheVariants as roles
+use Rattle.bfm_commands.specs.declared.owner.Owner.{Owner}
+use Rattle.bfm_commands.specs.declared.owner.Owner.TheVariants as owners
+use Rattle.bfm_commands.specs.declared.settings.Given.{Given}
 
--- The value of a command, unless it makes the box too large: the number of sites is known at the third side, where
--- the two sides before it span this area.
-abbrev pub fitting : ℕ → ℕ → Option ℕ → Option ℕ
-fitting index area None = None
-fitting index area (Some value) = if (index == 3) && nat_lt MOST_SITES (area * value) then None else Some value
+-- the first of the causes that applies, where they stand in the order of their numbers
+abbrev pub least : List (Cause × Bool) → Option Cause
+least [] = None
+least (c ∷ causes) = if c.1 then Some c.0 else least causes
 
--- the next of the seven commands with a value stands here
-abbrev pub value_cause : List (List ℕ) → List ℕ → Option Cause
-value_cause before text =
-    if is_some (fitting (length before) (value_at before 1 * value_at before 2) (given (setting_at (length before)) text))
-    then None else Some Unbuilt
+-- Command lines.
+
+-- what follows the name of a command is not what has to follow it
+abbrev pub is_ill_formed : Role → List ℕ → Bool
+is_ill_formed (roles.Value smallest greatest) rest = is_none (value_number rest)
+is_ill_formed roles.Frame rest = is_none (value_number rest)
+is_ill_formed roles.List rest = not (is_bare rest)
+is_ill_formed roles.Unbuilt rest = false
+
+-- there is a number, and it is not from the one to the other
+abbrev pub is_outside : ℕ → ℕ → Option ℤ → Bool
+is_outside smallest greatest None = false
+is_outside smallest greatest (Some n) = is_none (natural_within smallest greatest n)
+
+-- a number follows the name that is out of its range
+abbrev pub is_out_of_range : Role → List ℕ → Bool
+is_out_of_range (roles.Value smallest greatest) rest = is_outside smallest greatest (value_number rest)
+is_out_of_range roles.Frame rest = is_outside 0 GREATEST_MCS (value_number rest)
+is_out_of_range role rest = false
+
+abbrev pub is_header_command : Role → Bool
+is_header_command (roles.Value smallest greatest) = true
+is_header_command roles.List = true
+is_header_command role = false
+
+abbrev pub begins_frame : Role → Bool
+begins_frame roles.Frame = true
+begins_frame role = false
+
+abbrev pub is_unbuilt : Role → Bool
+is_unbuilt roles.Unbuilt = true
+is_unbuilt role = false
+
+-- the line ends the header
+abbrev pub ends_header : Role → History → Bool
+ends_header role before = begins_frame role && not (has_begun before)
+
+-- a frame has begun that is not whole
+abbrev pub is_cut_short : History → Bool
+is_cut_short before = has_begun before && not (is_whole before)
+
+-- the commands that a header must have
+abbrev pub required : List Known
+required = NumberOfMonomers ∷ BoxX ∷ BoxY ∷ BoxZ ∷ PeriodicX ∷ PeriodicY ∷ PeriodicZ ∷ []
+
+abbrev pub some_missing : List Given → Bool
+some_missing given = list_any (λ known. not (stands known given)) required
+
+abbrev pub product : Option ℕ → Option ℕ → Option ℕ → ℕ
+product (Some x) (Some y) (Some z) = x * y * z
+product x y z = 0
+
+-- all sides are there, and the box has too many sites
+abbrev pub is_box_too_large : List Given → Bool
+is_box_too_large given = nat_lt MOST_SITES (product (value_in BoxX given) (value_in BoxY given) (value_in BoxZ given))
+
+-- a pair has a monomer that is not there
+abbrev pub is_beyond : ℕ → ℕ × ℕ → Bool
+is_beyond count pair = not (nat_lt pair.0 count && nat_lt pair.1 count)
+
+-- some monomer has more bonds than it may have
+abbrev pub is_overfull : List (List ℕ) → Bool
+is_overfull bonds = list_any (λ row. nat_lt MOST_BONDS (length row)) bonds
+
+-- the line gives a time before that of the frame before it
+abbrev pub is_back_in_time : Role → List ℕ → History → Bool
+is_back_in_time roles.Frame rest before = has_begun before && is_below (natural_in (value_number rest)) (mcs_of before)
+  where
+    is_below : Option ℕ → ℕ → Bool
+    is_below None mcs = false
+    is_below (Some n) mcs = nat_lt n mcs
+is_back_in_time role rest before = false
+
+-- a line with a known command
+abbrev pub known_cause : History → Known → Role → List ℕ → Option Cause
+known_cause before known role rest =
+    let given = given_of before in
+    least (
+    (BadLine, is_ill_formed role rest)
+    ∷ (OutOfLimit, is_out_of_range role rest || (ends_header role before && is_box_too_large given))
+    ∷ (Repeated, is_header_command role && not (has_begun before) && stands known given)
+    ∷ (NotSymmetric, ends_header role before && is_some (first_unpaired (set_of before)))
+    ∷ (FrameShort, is_cut_short before)
+    ∷ (Missing, ends_header role before && some_missing given)
+    ∷ (Misplaced, is_header_command role && has_begun before)
+    ∷ (McsOrder, is_back_in_time role rest before)
+    ∷ (BadMonomer, ends_header role before && list_any (is_beyond (count_in given)) (pairs_of before))
+    ∷ (TooManyBonds, ends_header role before && is_overfull (listed_bonds (count_in given) (pairs_of before)))
+    ∷ (Unbuilt, is_unbuilt role)
+    ∷ []
+    )
+
+-- a command line
+abbrev pub command_cause : History → Option Known → List ℕ → Option Cause
+command_cause before None rest = if is_cut_short before then Some FrameShort else None
+command_cause before (Some known) rest = known_cause before known (role_of known) rest
+
+-- Entries.
 
 abbrev pub entered : {A : Type 0} → (A → Option Cause) → Result A Cause → Option Cause
 entered judge (Err cause) = Some cause
-entered judge (Ok entry) = judge entry
+entered judge (Ok e) = judge e
 
 -- an entry of the set of bond vectors
 abbrev pub vector_cause : List (P3 × ℕ) → List ℕ → Option Cause
@@ -39,23 +137,7 @@ vector_cause set text = entered (λ e. refusal_of set e.0 e.1) (vector_entry tex
 
 -- an entry of the list of bonds
 abbrev pub bond_cause : List ℕ → Option Cause
-bond_cause text = entered (λ pair. None) (bond_entry text)
-
--- some monomer has more bonds than it may have
-abbrev pub is_overfull : List (List ℕ) → Bool
-is_overfull bonds = list_any (λ row. nat_lt MOST_BONDS (length row)) bonds
-
--- a pair has a monomer that is not there
-abbrev pub is_beyond : ℕ → ℕ × ℕ → Bool
-is_beyond count pair = not (nat_lt pair.0 count && nat_lt pair.1 count)
-
--- the line that begins the frame, where the header is judged as a whole
-abbrev pub begin_cause : List (List ℕ) → Option Cause
-begin_cause before =
-    if is_some (first_unpaired (set_of before)) then Some NotSymmetric
-    else if list_any (is_beyond (count_of before)) (pairs_of before) then Some BadMonomer
-    else if is_overfull (listed_bonds before) then Some TooManyBonds
-    else None
+bond_cause text = entered (λ pair. None) (pair_entry text)
 
 -- one of the positions, each after those before it, does not pass the test
 abbrev pub some_fails : (List P3 → P3 → Bool) → List P3 → List P3 → Bool
@@ -68,70 +150,48 @@ is_apart w before p = is_clear w.shape before p
 abbrev pub is_bonded_well : Configuration → List P3 → P3 → Bool
 is_bonded_well w before p = keeps_bonds w.shape w.set before (neighbours_of w.bonds (length before)) p
 
--- more positions in a world, and its bonds
-abbrev pub placing_cause : Configuration → List P3 → Option Cause
-placing_cause w ps =
-    if some_fails (λ before p. is_within_walls w.shape p) w.positions ps then Some Outside
-    else if some_fails (is_apart w) w.positions ps then Some Overlap
-    else if some_fails (is_bonded_well w) w.positions ps then Some BadBond
-    else None
+-- some monomer of a pair is not bonded to the other
+abbrev pub some_unbonded : List (List ℕ) → List (ℕ × ℕ) → Bool
+some_unbonded bonds pairs = list_any (λ pair. not (are_bonded bonds pair.0 pair.1)) pairs
 
-abbrev pub or_else : Option Cause → Option Cause → Option Cause
-or_else None later = later
-or_else (Some cause) later = Some cause
+-- A frame line with the position of its first monomer and its identifiers. Its successive monomers are bonded in the
+-- first frame, and their bonds count with the others; in a later frame they have to be bonded already.
+abbrev pub string_cause : Bool → Draft → P3 × List ℕ → Option Cause
+string_cause first draft line =
+    let w = draft.world in
+    let ps = string_positions w.set line in
+    let pairs = chain (length w.positions) (length line.1) in
+    let bonds = if first then with_pairs w.bonds pairs else w.bonds in
+    least (
+    (UnknownId, not (list_all (λ id. is_some (vector_of w.set id)) line.1))
+    ∷ (FrameLong, nat_lt draft.count (length w.positions + 1 + length line.1))
+    ∷ (Outside, some_fails (λ before p. is_within_walls w.shape p) w.positions ps)
+    ∷ (Overlap, some_fails (is_apart w) w.positions ps)
+    ∷ (BadBond, some_fails (is_bonded_well (record w { bonds = bonds })) w.positions ps)
+    ∷ (TooManyBonds, first && is_overfull bonds)
+    ∷ (BondUnknown, not first && some_unbonded bonds pairs)
+    ∷ []
+    )
 
--- The positions that a frame line gives. Its successive monomers are bonded, and those bonds count with the others.
-abbrev pub positions_cause : Draft → List P3 → Option Cause
-positions_cause draft ps =
-    let bonds = (with_line draft ps).world.bonds in
-    or_else (placing_cause (with_bonds draft bonds).world ps) (if is_overfull bonds then Some TooManyBonds else None)
+-- a frame line
+abbrev pub frame_cause : Bool → Draft → List ℕ → Option Cause
+frame_cause first draft text = entered (string_cause first draft) (frame_line text)
 
--- a frame line with the position of its first monomer and its identifiers
-abbrev pub string_cause : Draft → P3 × List ℕ → Option Cause
-string_cause draft line =
-    if not (list_all (λ id. is_some (vector_of draft.world.set id)) line.1) then Some UnknownId
-    else if nat_lt draft.count (length draft.world.positions + 1 + length line.1) then Some FrameLong
-    else positions_cause draft (string_positions draft.world.set line)
+-- An entry of its owner. A command with a value has no entries.
+abbrev pub entry_cause : History → Owner → List ℕ → Option Cause
+entry_cause before owners.Nobody text = Some BadLine
+entry_cause before owners.Unknown text = None
+entry_cause before (owners.Command SetOfBondVectors) text = vector_cause (set_of before) text
+entry_cause before (owners.Command Bonds) text = bond_cause text
+entry_cause before (owners.Command Mcs) text = frame_cause (is_first_frame before) (draft_of before) text
+entry_cause before (owners.Command known) text = Some BadLine
 
--- No line stands behind a whole frame.
-abbrev pub frame_cause : Draft → List ℕ → Option Cause
-frame_cause draft text =
-    if nat_le draft.count (length draft.world.positions) then Some Unbuilt else entered (string_cause draft) (frame_line text)
-
--- the order of the sections
-abbrev pub rank : Section → ℕ
-rank Head = 0
-rank Vectors = 1
-rank Bonds = 2
-rank Frame = 3
-
--- a line that begins a section, which has to come after the present one
-abbrev pub opening_cause : List (List ℕ) → Section → Option Cause
-opening_cause before section =
-    if nat_le (rank section) (rank (section_of before)) then Some Unbuilt
-    else if rank section == 3 then begin_cause before
-    else None
-
--- a line that begins none
-abbrev pub entry_cause : List (List ℕ) → Section → List ℕ → Option Cause
-entry_cause before Head text = Some Unbuilt
-entry_cause before Vectors text = vector_cause (set_of before) text
-entry_cause before Bonds text = bond_cause text
-entry_cause before Frame text = Some Unbuilt
-
-abbrev pub list_cause : List (List ℕ) → List ℕ → Option Section → Option Cause
-list_cause before text (Some section) = opening_cause before section
-list_cause before text None = entry_cause before (section_of before) text
-
-abbrev pub section_cause : List (List ℕ) → List ℕ → Section → Option Cause
-section_cause before text Frame = frame_cause (draft_of before) text
-section_cause before text Head = list_cause before text (opened_by text)
-section_cause before text Vectors = list_cause before text (opened_by text)
-section_cause before text Bonds = list_cause before text (opened_by text)
+-- any line
+abbrev pub meaning_cause : History → Meaning → Option Cause
+meaning_cause before nothing = None
+meaning_cause before (command known rest) = command_cause before known rest
+meaning_cause before (entry text) = entry_cause before (owner_of before) text
 
 -- A line that is too long has no other cause.
-abbrev pub cause_of : List (List ℕ) → List ℕ → Option Cause
-cause_of before line =
-    if is_long line then Some OutOfLimit
-    else if nat_lt (length before) 7 then value_cause before (without_return line)
-    else section_cause before (without_return line) (section_of before)
+abbrev pub cause_of : History → List ℕ → Option Cause
+cause_of before line = if is_long line then Some OutOfLimit else meaning_cause before (meaning_of line)

@@ -1,114 +1,148 @@
--- What the finished lines before a line give. They come newest first, so that what a line adds is told by it and by
--- the lines before it.
-use Rattle.std.specs.Prelude.{ℕ, zero, suc, ◌+◌, ◌==◌, ℤ, unsigned_abs, List, [], ◌∷◌, ◌++◌, length, codes, slice_index_or, replicate, Option, None, Some, is_some, unwrap_or, Result, Ok, Err, pos, if◌then◌else◌}
-use Rattle.std.specs.Str.{bytes_eq}
-use Rattle.bfm_base.specs.declared.limits.TheConstants.{MOST_MONOMERS, LEAST_SIDE, GREATEST_SIDE, GREATEST_MCS}
+-- What the finished lines of a file give. They come newest first, so that what a line adds is told by it and by the
+-- lines before it.
+use Rattle.std.specs.Prelude.{ℕ, zero, suc, ◌+◌, ◌-◌, ◌==◌, Bool, true, false, not, ◌&&◌, ℤ, pos, negsuc, unsigned_abs, List, [], ◌∷◌, ◌++◌, length, replicate, Option, None, Some, is_some, unwrap_or, option_and_then, find, Result, if◌then◌else◌}
+use Rattle.std.specs.List.{list_any}
+use Rattle.std.specs.Result.{result_ok}
+use Rattle.bfm_base.specs.declared.cause.Cause.{Cause}
 use Rattle.bfm_base.specs.declared.place.P3.{P3}
 use Rattle.bfm_base.specs.declared.place.Shape.{Shape}
 use Rattle.bfm_geom.specs.Difference.{plus}
 use Rattle.bond_set.specs.BondSet.{vector_of}
 use Rattle.bfm_world.specs.Bonds.{are_bonded, with_bond}
-use Rattle.bfm_world.specs.Draft.{Draft, begun, with_positions, with_bonds}
-use Rattle.bfm_lexer.specs.Lines.{without_return}
-use Rattle.bfm_commands.specs.Numbers.{Setting, given}
-use Rattle.bfm_commands.specs.Entries.{vector_entry, bond_entry, frame_line}
-use Rattle.bfm_commands.specs.declared.section.Section.{Section}
-use Rattle.bfm_commands.specs.declared.section.Section.TheVariants.{Head, Vectors, Bonds, Frame}
+use Rattle.bfm_world.specs.Draft.{Draft}
+use Rattle.bfm_commands.specs.Forms.{value_number, vector_entry, pair_entry, frame_line}
+use Rattle.bfm_commands.specs.Meaning.{Meaning, nothing, command, entry, meaning_of, role_of}
+use Rattle.bfm_commands.specs.declared.commands.Known.{Known}
+use Rattle.bfm_commands.specs.declared.commands.Known.TheVariants.{NumberOfMonomers, BoxX, BoxY, BoxZ, PeriodicX, PeriodicY, PeriodicZ, SetOfBondVectors, Bonds, Attributes, Valence, Fixed, Contacts, Acceptance, Mcs, AddBonds, RemoveBonds, Stream, Solid}
+use Rattle.bfm_commands.specs.declared.role.Role.{Role}
+use Rattle.bfm_commands.specs.declared.role.Role.TheVariants as roles
+use Rattle.bfm_commands.specs.declared.owner.Owner.{Owner}
+use Rattle.bfm_commands.specs.declared.owner.Owner.TheVariants.{Nobody, Unknown, Command}
+use Rattle.bfm_commands.specs.declared.settings.Given.{Given}
 
--- the commands with a value, in the order in which they stand
-abbrev pub settings : List Setting
-settings =
-    record { name = codes "!number_of_monomers"; least = 1; greatest = MOST_MONOMERS }
-    ∷ record { name = codes "!box_x"; least = LEAST_SIDE; greatest = GREATEST_SIDE }
-    ∷ record { name = codes "!box_y"; least = LEAST_SIDE; greatest = GREATEST_SIDE }
-    ∷ record { name = codes "!box_z"; least = LEAST_SIDE; greatest = GREATEST_SIDE }
-    ∷ record { name = codes "!periodic_x"; least = 0; greatest = 1 }
-    ∷ record { name = codes "!periodic_y"; least = 0; greatest = 1 }
-    ∷ record { name = codes "!periodic_z"; least = 0; greatest = 1 }
-    ∷ []
+-- lines, the newest first
+abbrev pub History : Type 0
+History = List (List ℕ)
 
-abbrev pub time_setting : Setting
-time_setting = record { name = codes "!mcs"; least = 0; greatest = GREATEST_MCS }
+-- The header: the lines before the first that begins a frame.
 
-abbrev pub setting_at : ℕ → Setting
-setting_at index = slice_index_or settings index (record { name = []; least = 0; greatest = 0 })
+abbrev pub begins : Meaning → Bool
+begins (command (Some Mcs) rest) = true
+begins line = false
 
--- the value of a command, counted from 0: that of the line before which so many lines stand
-abbrev pub value_at : List (List ℕ) → ℕ → ℕ
-value_at [] index = 0
-value_at (line ∷ before) index =
-    if length before == index then unwrap_or (given (setting_at index) (without_return line)) 0 else value_at before index
+abbrev pub has_begun : History → Bool
+has_begun lines = list_any (λ line. begins (meaning_of line)) lines
 
-abbrev pub count_of : List (List ℕ) → ℕ
-count_of before = value_at before 0
+abbrev pub header_of : History → History
+header_of [] = []
+header_of (line ∷ before) = if has_begun (line ∷ before) then header_of before else line ∷ before
 
-abbrev pub shape_of : List (List ℕ) → Shape
-shape_of before = record {
-  sides = value_at before 1 ∷ value_at before 2 ∷ value_at before 3 ∷ [];
-  periodic = (value_at before 4 == 1) ∷ (value_at before 5 == 1) ∷ (value_at before 6 == 1) ∷ [];
+-- The owner of an entry: the last command line before it.
+
+abbrev pub owner_after : Owner → Meaning → Owner
+owner_after owner nothing = owner
+owner_after owner (entry text) = owner
+owner_after owner (command None rest) = Unknown
+owner_after owner (command (Some known) rest) = Command known
+
+abbrev pub owner_of : History → Owner
+owner_of [] = Nobody
+owner_of (line ∷ before) = owner_after (owner_of before) (meaning_of line)
+
+abbrev pub is_same : Known → Known → Bool
+is_same NumberOfMonomers NumberOfMonomers = true
+is_same BoxX BoxX = true
+is_same BoxY BoxY = true
+is_same BoxZ BoxZ = true
+is_same PeriodicX PeriodicX = true
+is_same PeriodicY PeriodicY = true
+is_same PeriodicZ PeriodicZ = true
+is_same SetOfBondVectors SetOfBondVectors = true
+is_same Bonds Bonds = true
+is_same Attributes Attributes = true
+is_same Valence Valence = true
+is_same Fixed Fixed = true
+is_same Contacts Contacts = true
+is_same Acceptance Acceptance = true
+is_same Mcs Mcs = true
+is_same AddBonds AddBonds = true
+is_same RemoveBonds RemoveBonds = true
+is_same Stream Stream = true
+is_same Solid Solid = true
+is_same known other = false
+
+-- the text of a line that is an entry of this command
+abbrev pub entry_of : Known → Owner → Meaning → Option (List ℕ)
+entry_of known (Command owner) (entry text) = if is_same owner known then Some text else None
+entry_of known owner line = None
+
+-- what such an entry gives, where it is right
+abbrev pub given_in : {A : Type 0} → (List ℕ → Result A Cause) → Option (List ℕ) → Option A
+given_in form text = option_and_then (λ t. result_ok (form t)) text
+
+-- The commands of the header, and their values.
+
+abbrev pub natural_in : Option ℤ → Option ℕ
+natural_in None = None
+natural_in (Some (pos n)) = Some n
+natural_in (Some (negsuc n)) = None
+
+abbrev pub given_as : Known → Role → List ℕ → List Given
+given_as known (roles.Value least greatest) rest = record { command = known; value = natural_in (value_number rest) } ∷ []
+given_as known roles.List rest = record { command = known; value = None } ∷ []
+given_as known role rest = []
+
+abbrev pub given_by : Meaning → List Given
+given_by (command (Some known) rest) = given_as known (role_of known) rest
+given_by line = []
+
+-- the commands of a header, each with the number that it gives, if it gives one
+abbrev pub given_of : History → List Given
+given_of [] = []
+given_of (line ∷ before) = given_by (meaning_of line) ++ given_of before
+
+-- the newest line that gives a command
+abbrev pub find_given : Known → List Given → Option Given
+find_given known given = find (λ g. is_same g.command known) given
+
+abbrev pub stands : Known → List Given → Bool
+stands known given = is_some (find_given known given)
+
+-- the number that it gives
+abbrev pub value_in : Known → List Given → Option ℕ
+value_in known given = option_and_then (λ g. g.value) (find_given known given)
+
+abbrev pub value_or_zero : Known → List Given → ℕ
+value_or_zero known given = unwrap_or (value_in known given) 0
+
+abbrev pub count_in : List Given → ℕ
+count_in given = value_or_zero NumberOfMonomers given
+
+abbrev pub shape_in : List Given → Shape
+shape_in given = record {
+  sides = value_or_zero BoxX given ∷ value_or_zero BoxY given ∷ value_or_zero BoxZ given ∷ [];
+  periodic = (value_or_zero PeriodicX given == 1) ∷ (value_or_zero PeriodicY given == 1) ∷ (value_or_zero PeriodicZ given == 1) ∷ [];
 }
 
--- the section that a line begins
-abbrev pub opened_by : List ℕ → Option Section
-opened_by text =
-    if bytes_eq text (codes "!set_of_bondvectors") then Some Vectors
-    else if bytes_eq text (codes "!bonds") then Some Bonds
-    else if is_some (given time_setting text) then Some Frame
-    else None
+-- The lists of the header.
 
--- The section in which the next line stands. A frame is the last one.
-abbrev pub section_after : Section → List ℕ → Section
-section_after Frame line = Frame
-section_after Head line = unwrap_or (opened_by (without_return line)) Head
-section_after Vectors line = unwrap_or (opened_by (without_return line)) Vectors
-section_after Bonds line = unwrap_or (opened_by (without_return line)) Bonds
-
-abbrev pub section_of : List (List ℕ) → Section
-section_of [] = Head
-section_of (line ∷ before) = section_after (section_of before) line
-
-abbrev pub time_in : Section → ℕ → List ℕ → ℕ
-time_in Frame mcs line = mcs
-time_in Head mcs line = unwrap_or (given time_setting (without_return line)) 0
-time_in Vectors mcs line = unwrap_or (given time_setting (without_return line)) 0
-time_in Bonds mcs line = unwrap_or (given time_setting (without_return line)) 0
-
--- the time of the frame: that of the line that began it
-abbrev pub mcs_of : List (List ℕ) → ℕ
-mcs_of [] = 0
-mcs_of (line ∷ before) = time_in (section_of before) (mcs_of before) line
-
--- the set of bond vectors with one more vector, where an entry gives one
-abbrev pub with_vector : {E : Type 0} → List (P3 × ℕ) → Result (P3 × ℤ) E → List (P3 × ℕ)
-with_vector set (Err cause) = set
-with_vector set (Ok e) = set ++ (e.0, unsigned_abs e.1) ∷ []
-
-abbrev pub set_in : Section → List (P3 × ℕ) → List ℕ → List (P3 × ℕ)
-set_in Vectors set line = with_vector set (vector_entry (without_return line))
-set_in Head set line = set
-set_in Bonds set line = set
-set_in Frame set line = set
+abbrev pub with_vector : List (P3 × ℕ) → Option (P3 × ℤ) → List (P3 × ℕ)
+with_vector set None = set
+with_vector set (Some e) = set ++ (e.0, unsigned_abs e.1) ∷ []
 
 -- the set of bond vectors
-abbrev pub set_of : List (List ℕ) → List (P3 × ℕ)
+abbrev pub set_of : History → List (P3 × ℕ)
 set_of [] = []
-set_of (line ∷ before) = set_in (section_of before) (set_of before) line
+set_of (line ∷ before) = with_vector (set_of before) (given_in vector_entry (entry_of SetOfBondVectors (owner_of before) (meaning_of line)))
 
--- the pairs of monomers with one more pair, where an entry gives one
-abbrev pub with_entry : {E : Type 0} → List (ℕ × ℕ) → Result (ℕ × ℕ) E → List (ℕ × ℕ)
-with_entry pairs (Err cause) = pairs
-with_entry pairs (Ok pair) = pairs ++ pair ∷ []
+abbrev pub with_listed : List (ℕ × ℕ) → Option (ℕ × ℕ) → List (ℕ × ℕ)
+with_listed pairs None = pairs
+with_listed pairs (Some pair) = pairs ++ pair ∷ []
 
-abbrev pub pairs_in : Section → List (ℕ × ℕ) → List ℕ → List (ℕ × ℕ)
-pairs_in Bonds pairs line = with_entry pairs (bond_entry (without_return line))
-pairs_in Head pairs line = pairs
-pairs_in Vectors pairs line = pairs
-pairs_in Frame pairs line = pairs
-
--- the pairs of monomers that the file lists as bonded
-abbrev pub pairs_of : List (List ℕ) → List (ℕ × ℕ)
+-- the pairs of monomers that are listed as bonded
+abbrev pub pairs_of : History → List (ℕ × ℕ)
 pairs_of [] = []
-pairs_of (line ∷ before) = pairs_in (section_of before) (pairs_of before) line
+pairs_of (line ∷ before) = with_listed (pairs_of before) (given_in pair_entry (entry_of Bonds (owner_of before) (meaning_of line)))
 
 -- A pair that is bonded has no further effect.
 abbrev pub with_pair : List (List ℕ) → ℕ × ℕ → List (List ℕ)
@@ -118,9 +152,11 @@ abbrev pub with_pairs : List (List ℕ) → List (ℕ × ℕ) → List (List ℕ
 with_pairs bonds [] = bonds
 with_pairs bonds (pair ∷ pairs) = with_pairs (with_pair bonds pair) pairs
 
--- the bonds that the file lists
-abbrev pub listed_bonds : List (List ℕ) → List (List ℕ)
-listed_bonds before = with_pairs (replicate (count_of before) []) (pairs_of before)
+-- the bonds that so many monomers have by pairs that are listed
+abbrev pub listed_bonds : ℕ → List (ℕ × ℕ) → List (List ℕ)
+listed_bonds count pairs = with_pairs (replicate count []) pairs
+
+-- The frame that began last.
 
 -- the positions that identifiers lead to, one from the other
 abbrev pub walk : List (P3 × ℕ) → P3 → List ℕ → List P3
@@ -133,33 +169,90 @@ walk set p (id ∷ ids) =
 abbrev pub string_positions : List (P3 × ℕ) → P3 × List ℕ → List P3
 string_positions set line = line.0 ∷ walk set line.0 line.1
 
--- the positions that a frame line gives
-abbrev pub line_positions : {E : Type 0} → List (P3 × ℕ) → Result (P3 × List ℕ) E → List P3
-line_positions set (Err cause) = []
-line_positions set (Ok line) = string_positions set line
+abbrev pub line_positions : List (P3 × ℕ) → Option (P3 × List ℕ) → List P3
+line_positions set None = []
+line_positions set (Some line) = string_positions set line
+
+-- the positions that a line adds to its frame
+abbrev pub positions_by : History → Meaning → List P3
+positions_by before line = line_positions (set_of (header_of before)) (given_in frame_line (entry_of Mcs (owner_of before) line))
+
+abbrev pub positions_of : History → List P3
+positions_of [] = []
+positions_of (line ∷ before) = if begins (meaning_of line) then [] else positions_of before ++ positions_by before (meaning_of line)
+
+abbrev pub time_after : ℕ → Meaning → ℕ
+time_after mcs (command (Some Mcs) rest) = unwrap_or (natural_in (value_number rest)) 0
+time_after mcs line = mcs
+
+-- its time, in sweeps
+abbrev pub mcs_of : History → ℕ
+mcs_of [] = 0
+mcs_of (line ∷ before) = time_after (mcs_of before) (meaning_of line)
+
+-- it is the first one
+abbrev pub is_first_frame : History → Bool
+is_first_frame [] = false
+is_first_frame (line ∷ before) = if begins (meaning_of line) then not (has_begun before) else is_first_frame before
 
 -- the pairs of successive monomers, of which there are n after monomer k
 abbrev pub chain : ℕ → ℕ → List (ℕ × ℕ)
 chain k zero = []
 chain k (suc n) = (k, k + 1) ∷ chain (k + 1) n
 
--- the positions and bonds with those of one more frame line
-abbrev pub with_line : Draft → List P3 → Draft
-with_line draft [] = draft
-with_line draft (p ∷ ps) =
-    let placed = with_positions draft (draft.world.positions ++ p ∷ ps) in
-    with_bonds placed (with_pairs draft.world.bonds (chain (length draft.world.positions) (length ps)))
+-- the successive monomers in the lines of the first frame, who are bonded
+abbrev pub shown_pairs : History → List (ℕ × ℕ)
+shown_pairs [] = []
+shown_pairs (line ∷ before) =
+    if is_first_frame before then shown_pairs before ++ chain (length (positions_of before)) (length (positions_by before (meaning_of line)) - 1)
+    else shown_pairs before
 
--- the world as far as the lines of the frame give it
-abbrev pub begun_frame : List (List ℕ) → Draft
-begun_frame before = with_bonds (begun (shape_of before) (set_of before) (count_of before)) (listed_bonds before)
+-- the world that the frame gives, as far as its lines have come
+abbrev pub draft_of : History → Draft
+draft_of lines =
+    let header = header_of lines in
+    let given = given_of header in
+    record {
+      world = record {
+        shape = shape_in given;
+        set = set_of header;
+        positions = positions_of lines;
+        bonds = with_pairs (listed_bonds (count_in given) (pairs_of header)) (shown_pairs lines);
+      };
+      count = count_in given;
+    }
 
-abbrev pub draft_in : Section → List (List ℕ) → Draft → List ℕ → Draft
-draft_in Frame before draft line = with_line draft (line_positions draft.world.set (frame_line (without_return line)))
-draft_in Head before draft line = begun_frame before
-draft_in Vectors before draft line = begun_frame before
-draft_in Bonds before draft line = begun_frame before
+-- Whole frames.
 
-abbrev pub draft_of : List (List ℕ) → Draft
-draft_of [] = begun_frame []
-draft_of (line ∷ before) = draft_in (section_of before) before (draft_of before) line
+-- as many positions as monomers stand in the frame
+abbrev pub is_whole : History → Bool
+is_whole lines = has_begun lines && (length (positions_of lines) == count_in (given_of (header_of lines)))
+
+-- the newest line makes its frame whole
+abbrev pub completes : List ℕ → History → Bool
+completes line before = is_some (entry_of Mcs (owner_of before) (meaning_of line)) && is_whole (line ∷ before)
+
+-- the lines up to the one that made the last whole frame so, or none
+abbrev pub last_whole : History → History
+last_whole [] = []
+last_whole (line ∷ before) = if completes line before then line ∷ before else last_whole before
+
+-- how many frames were made whole
+abbrev pub frames_of : History → ℕ
+frames_of [] = 0
+frames_of (line ∷ before) = if completes line before then frames_of before + 1 else frames_of before
+
+-- the positions of the first whole frame
+abbrev pub first_positions : History → List P3
+first_positions [] = []
+first_positions (line ∷ before) =
+    if (frames_of before == 0) && completes line before then positions_of (line ∷ before) else first_positions before
+
+-- Commands that are not known are counted.
+abbrev pub is_skipped : Meaning → Bool
+is_skipped (command None rest) = true
+is_skipped line = false
+
+abbrev pub skipped_of : History → ℕ
+skipped_of [] = 0
+skipped_of (line ∷ before) = if is_skipped (meaning_of line) then skipped_of before + 1 else skipped_of before

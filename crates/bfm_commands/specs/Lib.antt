@@ -1,11 +1,11 @@
 pub mod Capped
 pub mod Causes
 pub mod Commands
-pub mod Entries
 pub mod Faults
 pub mod Forms
 pub mod History
-pub mod Lines
-pub mod Numbers
+pub mod Meaning
+pub mod Placing
 pub mod Reading
+pub mod Settings
 pub mod Verdict

@@ -1,102 +1,287 @@
--- What a reader of a file keeps of the lines that it has taken, which come newest first.
-use Rattle.std.specs.Prelude.{◌≡◌, ◌≢◌, ℕ, ◌+◌, ◌*◌, ◌<◌, ◌≤◌, List, [], ◌∷◌, All, length, slice_index, Option, None, Some}
+-- What a reader of a file keeps of the bytes that it has been fed. Finished lines come newest first.
+use Rattle.std.specs.Prelude.{◌≡◌, ◌≢◌, ℕ, ◌+◌, ◌≤◌, Bool, true, false, not, nat_eq, nat_lt, List, [], ◌∷◌, ◌++◌, length, Option, None, Some, MatchOption, is_some, Result, Ok, Err, if◌then◌else◌}
+use Rattle.std.specs.List.{list_any, list_all}
 use Rattle.bfm_base.specs.declared.cause.Cause.{Cause}
-use Rattle.bfm_base.specs.declared.limits.TheConstants.{MOST_SITES, GREATEST_MCS}
+use Rattle.bfm_base.specs.declared.cause.Cause.TheVariants.{BadLine, OutOfLimit, Repeated, NotSymmetric, FrameShort, Missing, McsOrder, BadMonomer, TooManyBonds}
+use Rattle.bfm_base.specs.declared.place.P3.{P3}
+use Rattle.bfm_base.specs.declared.cause.Refused.{Refused}
 use Rattle.bfm_base.specs.declared.cause.ReadStop.{ReadStop}
 use Rattle.bfm_base.specs.declared.cause.ReadStop.TheVariants as stops
-use Rattle.bfm_world.specs.Draft.{Draft}
-use Rattle.bfm_commands.specs.History.{opened_by, time_setting, setting_at, value_at, mcs_of, section_of, set_of, pairs_of, draft_of}
-use Rattle.bfm_commands.specs.Causes.{cause_of, begin_cause, rank}
-use Rattle.bfm_commands.specs.Numbers.{given}
-use Rattle.bfm_commands.specs.declared.section.Section.TheVariants as sections
-use Rattle.bfm_commands.specs.declared.header.Opening.{Opening}
-use Rattle.bfm_commands.specs.declared.header.Opening.TheVariants as openings
-use Rattle.bfm_commands.specs.Verdict.{first_wrong, newest_first, bytes_in}
-use Rattle.bfm_lexer.specs.Lines.{finished_lines}
+use Rattle.bfm_base.specs.declared.limits.TheConstants.{WORLD_REACH, GREATEST_MCS}
+use Rattle.bond_set.specs.BondSet.{first_unpaired, vector_of}
+use Rattle.bfm_world.specs.Configuration.{IsSound, IsValid, reach_of}
+use Rattle.bfm_world.specs.Draft.{Draft, begun, with_positions, with_bonds}
+use Rattle.bfm_lexer.specs.Cutter as cutters
+use Rattle.bfm_commands.specs.History.{History, has_begun, owner_of, given_of, shape_in, count_in, set_of, pairs_of, listed_bonds, string_positions, line_positions, given_in, entry_of, with_vector, with_listed, mcs_of, is_first_frame, draft_of, last_whole, frames_of, first_positions, skipped_of, given_as}
+use Rattle.bfm_commands.specs.Causes.{is_box_too_large, some_missing, is_beyond, is_overfull, vector_cause, bond_cause, least}
+use Rattle.bfm_commands.specs.Forms.{vector_entry, pair_entry, frame_line}
+use Rattle.bfm_commands.specs.Meaning.{meaning_of, command, entry, role_of}
+use Rattle.bfm_commands.specs.Placing.{with_line, with_later_line}
+use Rattle.bfm_commands.specs.declared.loaded.Loaded.{Loaded}
+use Rattle.bfm_commands.specs.Verdict.{history_of, first_wrong_of, bytes_in, IsStop}
+use Rattle.bfm_commands.specs.declared.commands.Known.{Known}
+use Rattle.bfm_commands.specs.declared.commands.Known.TheVariants.{Mcs, SetOfBondVectors, Bonds}
+use Rattle.bfm_commands.specs.declared.owner.Owner.{Owner}
+use Rattle.bfm_commands.specs.declared.owner.Owner.TheVariants.{Command, Unknown}
 use Rattle.bfm_commands.specs.declared.header.Header.{Header}
+use Rattle.bfm_commands.specs.declared.frames.Whole.{Whole}
+use Rattle.bfm_commands.specs.declared.frames.Frames.{Frames}
+use Rattle.bfm_commands.specs.declared.summary.Summary.{Summary}
+use Rattle.bfm_commands.specs.declared.progress.Progress.{Progress}
 use Rattle.bfm_commands.specs.declared.fault.LineFault.{LineFault}
 use Rattle.bfm_commands.specs.declared.fault.LineFault.TheVariants as faults
-
--- the value of a command, counted from 0, which is within its range
-pub record IsValue (lines : List (List ℕ)) (index value : ℕ) : Type 0 where
-  pub is : value_at lines index ≡ value
-  pub least : (setting_at index).least ≤ value
-  pub greatest : value ≤ (setting_at index).greatest
-
--- a header is what these lines give, none of which begins the frame
-pub record IsHeader (header : Header) (lines : List (List ℕ)) : Type 0 where
-  pub count : header.lines ≡ length lines
-  pub section : header.section ≡ section_of lines
-  pub before_frame : rank (section_of lines) < 3
-  pub values : (index : ℕ) → index < 7 → index < length lines → IsValue lines index (slice_index header.values index)
-  pub sites : 3 < length lines → slice_index header.values 1 * slice_index header.values 2 * slice_index header.values 3 ≤ MOST_SITES
-  pub set : header.set ≡ set_of lines
-  pub pairs : header.pairs.items ≡ pairs_of lines
-
--- All values of a header are there and in their ranges, and each pair has two monomers.
-pub record IsReady (header : Header) : Type 0 where
-  pub lines : 7 ≤ header.lines
-  pub least : (index : ℕ) → index < 7 → (setting_at index).least ≤ slice_index header.values index
-  pub greatest : (index : ℕ) → index < 7 → slice_index header.values index ≤ (setting_at index).greatest
-  pub sites : slice_index header.values 1 * slice_index header.values 2 * slice_index header.values 3 ≤ MOST_SITES
-  pub pairs : All (λ pair. pair.0 ≢ pair.1) header.pairs.items
-
--- a line begins the frame of this time, and is right where the header as a whole is
-pub record Begins (lines : List (List ℕ)) (line : List ℕ) (mcs : ℕ) : Type 0 where
-  pub cause : cause_of lines line ≡ begin_cause lines
-  pub section : rank (section_of (line ∷ lines)) ≡ 3
-  pub time : mcs_of (line ∷ lines) ≡ mcs
-  pub limit : mcs ≤ GREATEST_MCS
-  pub values : 7 ≤ length lines
 
 -- why a line was not taken: its cause, or want of memory
 abbrev pub IsFault : LineFault → Option Cause → Type 0
 IsFault (faults.Refused cause) verdict = verdict ≡ Some cause
 IsFault faults.Memory verdict = Unit {0}
 
--- what a line begins: a section, and for the frame its time
-abbrev pub IsOpening : Option Opening → List ℕ → Type 0
-IsOpening None text = opened_by text ≡ None
-IsOpening (Some openings.Vectors) text = opened_by text ≡ Some sections.Vectors
-IsOpening (Some openings.Bonds) text = opened_by text ≡ Some sections.Bonds
-IsOpening (Some (openings.Frame mcs)) text = (opened_by text ≡ Some sections.Frame) × (given time_setting text ≡ Some mcs)
+-- The header.
 
--- the lines of a frame have given this much of it
-pub record IsFrame (builder : Draft) (lines : List (List ℕ)) : Type 0 where
-  pub values : 7 ≤ length lines
-  pub section : rank (section_of lines) ≡ 3
-  pub draft : builder ≡ draft_of lines
+abbrev pub value_fault : Result ℕ Cause → Bool → Option Cause
+value_fault (Err cause) stood = Some cause
+value_fault (Ok value) stood = if stood then Some Repeated else None
 
--- These lines of a file have been read, each of them right, and the rest is still to be read.
-pub record HasRead (bytes rest : List ℕ) (lines : List (List ℕ)) : Type 0 where
-  pub wrong : first_wrong lines (finished_lines rest) ≡ first_wrong [] (finished_lines bytes)
-  pub order : newest_first lines (finished_lines rest) ≡ newest_first [] (finished_lines bytes)
-  pub count : bytes_in lines + length rest ≡ length bytes
+abbrev pub list_fault : Bool → Bool → Option Cause
+list_fault bare stood = if not bare then Some BadLine else if stood then Some Repeated else None
 
--- the same, and one line more that has not been judged as a whole
-pub record HasFound (bytes rest : List ℕ) (lines : List (List ℕ)) (line : List ℕ) : Type 0 where
-  pub wrong : first_wrong lines (line ∷ finished_lines rest) ≡ first_wrong [] (finished_lines bytes)
-  pub order : newest_first (line ∷ lines) (finished_lines rest) ≡ newest_first [] (finished_lines bytes)
-  pub count : bytes_in (line ∷ lines) + length rest ≡ length bytes
+-- why an entry of a command is wrong in a header
+abbrev pub entry_fault : Header → Known → List ℕ → Option Cause
+entry_fault header SetOfBondVectors text = vector_cause header.set text
+entry_fault header Bonds text = bond_cause text
+entry_fault header known text = Some BadLine
 
--- a header has been read up to the line that begins the frame of this time
-pub record HeaderRead (bytes : List ℕ) (header : Header) (mcs : ℕ) (rest : List ℕ) : Type 0 where
-  pub lines : List (List ℕ)
-  pub line : List ℕ
+-- a header with an entry of a command
+abbrev pub with_entry : Header → Known → List ℕ → Header
+with_entry header owner text = record header {
+  set = with_vector header.set (given_in vector_entry (entry_of SetOfBondVectors (Command owner) (entry text)));
+  pairs = with_listed header.pairs (given_in pair_entry (entry_of Bonds (Command owner) (entry text)));
+}
+
+-- why a header may not begin the first frame, if it may not
+abbrev pub begin_fault : Header → Option Cause
+begin_fault header =
+    let count = count_in header.settings in
+    least (
+    (OutOfLimit, is_box_too_large header.settings)
+    ∷ (NotSymmetric, is_some (first_unpaired header.set))
+    ∷ (Missing, some_missing header.settings)
+    ∷ (BadMonomer, list_any (is_beyond count) header.pairs)
+    ∷ (TooManyBonds, is_overfull (listed_bonds count header.pairs))
+    ∷ []
+    )
+
+-- the world that it begins
+abbrev pub begun_draft : Header → Draft
+begun_draft header =
+    let count = count_in header.settings in
+    with_bonds (begun (shape_in header.settings) header.set count) (listed_bonds count header.pairs)
+
+-- a header is what these lines give
+pub record IsHeader (header : Header) (lines : History) : Type 0 where
+  pub settings : header.settings ≡ given_of lines
+  pub set : header.set ≡ set_of lines
+  pub pairs : header.pairs ≡ pairs_of lines
+
+-- Frames.
+
+-- a frame is whole: each monomer has its position
+abbrev pub is_complete : Draft → Bool
+is_complete draft = nat_eq (length draft.world.positions) draft.count
+
+-- The last whole frame is a valid world.
+pub record IsKept (draft : Draft) (whole : Whole) : Type 0 where
+  pub valid : IsValid (with_positions draft whole.last.items).world
+  pub reach : reach_of whole.last.items ≤ WORLD_REACH
+  pub mcs : whole.mcs ≤ GREATEST_MCS
+
+-- what holds of frames whatever the lines were that gave them
+pub record AreSound (frames : Frames) : Type 0 where
+  pub mcs : frames.mcs ≤ GREATEST_MCS
+  pub list : frames.lines.positions.items ≡ frames.lines.builder.world.positions
+  pub reach : reach_of frames.lines.positions.items ≤ WORLD_REACH
+  pub whole : MatchOption frames.whole (Unit {0}) (IsKept frames.lines.builder)
+
+-- why the next frame may not begin at a time, if it may not
+abbrev pub next_fault : Frames → ℕ → Option Cause
+next_fault frames mcs =
+    least ((FrameShort, not (is_complete frames.lines.builder)) ∷ (McsOrder, nat_lt mcs frames.mcs) ∷ [])
+
+-- a line is judged, and its positions are in the list behind those of the frame
+pub record IsLineBegun (draft : Draft) (text : List ℕ) (list : List P3) : Type 0 where
+  pub sound : IsSound draft.count draft.world
+  pub line : P3 × List ℕ
+  pub form : frame_line text ≡ Ok line
+  pub known : list_all (λ id. is_some (vector_of draft.world.set id)) line.1 ≡ true
+  pub room : length list ≤ draft.count
+  pub positions : list ≡ draft.world.positions ++ string_positions draft.world.set line
+  pub reach : reach_of list ≤ WORLD_REACH
+
+-- the frame with one more line
+abbrev pub taken_line : Bool → Draft → List ℕ → Draft
+taken_line first draft text =
+    let ps = line_positions draft.world.set (given_in frame_line (Some text)) in
+    if first then with_line draft ps else with_later_line draft ps
+
+-- a frame that is whole is kept, which ends with so many bytes
+abbrev pub KeepsFrame : ℕ → Frames → Option Whole → Option Whole → Type 0
+KeepsFrame bytes frames old None = ⊥
+KeepsFrame bytes frames None (Some new) =
+    (new.first.items ≡ frames.lines.builder.world.positions)
+    × (new.last.items ≡ frames.lines.builder.world.positions)
+    × (new.mcs ≡ frames.mcs) × (new.kept ≡ bytes) × (new.frames ≡ 1)
+KeepsFrame bytes frames (Some old) (Some new) =
+    (new.first.items ≡ old.first.items)
+    × (new.last.items ≡ frames.lines.builder.world.positions)
+    × (new.mcs ≡ frames.mcs) × (new.kept ≡ bytes) × (new.frames ≡ old.frames + 1)
+
+-- what is kept where a frame has one more line, with which so many bytes have come
+pub record IsKeptWith (bytes : ℕ) (frames : Frames) (old new : Option Whole) : Type 0 where
+  pub whole : is_complete frames.lines.builder ≡ true → KeepsFrame bytes frames old new
+  pub part : is_complete frames.lines.builder ≡ false → new ≡ old
+
+-- what a file gives of whose frames this is kept
+abbrev pub loaded_by : Draft → ℕ → ℕ → Whole → Loaded
+loaded_by draft total skipped whole = record {
+  world = (with_positions draft whole.last.items).world;
+  first = whole.first.items;
+  mcs = whole.mcs;
+  frames = whole.frames;
+  kept = whole.kept;
+  total = total;
+  skipped = skipped;
+}
+
+-- what whole frames have given
+pub record AreWhole (whole : Whole) (lines : History) : Type 0 where
+  pub frames : whole.frames ≡ frames_of lines
+  pub some : frames_of lines ≢ 0
+  pub first : whole.first.items ≡ first_positions lines
+  pub mcs : whole.mcs ≡ mcs_of (last_whole lines)
+  pub kept : whole.kept ≡ bytes_in (last_whole lines)
+  -- the frames differ in their positions only
+  pub world : draft_of (last_whole lines) ≡ with_positions (draft_of lines) whole.last.items
+  -- the first frame takes no further line
+  pub later : is_first_frame lines ≡ true → length (draft_of lines).world.positions ≡ (draft_of lines).count
+
+-- no frame was whole yet
+pub record AreNone (lines : History) : Type 0 where
+  pub none : frames_of lines ≡ 0
+  pub part : is_complete (draft_of lines) ≡ false
+  pub first : is_first_frame lines ≡ true
+
+-- Once a frame has begun, an entry is a frame line or is skipped.
+abbrev pub owns_frame_lines : Owner → Bool
+owns_frame_lines (Command Mcs) = true
+owns_frame_lines Unknown = true
+owns_frame_lines owner = false
+
+-- frames are what these lines give
+pub record AreFrames (frames : Frames) (lines : History) : Type 0 where
+  pub begun : has_begun lines ≡ true
+  pub draft : frames.lines.builder ≡ draft_of lines
+  pub mcs : frames.mcs ≡ mcs_of lines
+  pub owner : owns_frame_lines (owner_of lines) ≡ true
+  pub whole : MatchOption frames.whole (AreNone lines) (λ whole. AreWhole whole lines)
+
+-- no frame has begun, and the header is what these lines give
+pub record IsBeforeFrames (header : Header) (lines : History) : Type 0 where
+  pub none : has_begun lines ≡ false
   pub gives : IsHeader header lines
-  pub begins : Begins lines line mcs
-  pub found : HasFound bytes rest lines line
 
--- a frame has been read up to the end of the file, which has so many lines
-pub record FrameRead (bytes : List ℕ) (builder : Draft) (mcs count : ℕ) (rest : List ℕ) : Type 0 where
-  pub lines : List (List ℕ)
-  pub frame : IsFrame builder lines
-  pub time : mcs_of lines ≡ mcs
-  pub counted : count ≡ length lines
-  pub read : HasRead bytes rest lines
-  pub end : finished_lines rest ≡ []
+-- The summary of the finished lines.
+pub record Sums (summary : Summary) (lines : History) : Type 0 where
+  pub owner : summary.owner ≡ owner_of lines
+  pub skipped : summary.skipped ≡ skipped_of lines
+  pub stage : MatchOption summary.frames (IsBeforeFrames summary.header lines) (λ frames. AreFrames frames lines)
+
+-- The summary with one more line that gives a header command, but for the owner.
+pub record GivesHeader (known : Known) (rest : List ℕ) (before : History) (summary : Summary) : Type 0 where
+  pub skipped : summary.skipped ≡ skipped_of before
+  pub none : summary.frames ≡ None
+  pub begun : has_begun before ≡ false
+  pub settings : summary.header.settings ≡ given_as known (role_of known) rest ++ given_of before
+  pub set : summary.header.set ≡ set_of before
+  pub pairs : summary.header.pairs ≡ pairs_of before
+
+-- The summary with one more line that begins a frame, but for the owner.
+pub record GivesFrame (rest : List ℕ) (before : History) (summary : Summary) : Type 0 where
+  pub skipped : summary.skipped ≡ skipped_of before
+  pub frames : (line : List ℕ) → meaning_of line ≡ command (Some Mcs) rest → MatchOption summary.frames ⊥ (λ frames. AreFrames frames (line ∷ before))
+
+-- what holds of it whatever the lines were
+abbrev pub IsFit : Summary → Type 0
+IsFit summary = MatchOption summary.frames (Unit {0}) AreSound
+
+-- how many whole frames are kept
+abbrev pub whole_frames : Option Frames → ℕ
+whole_frames None = 0
+whole_frames (Some frames) = whole_count frames.whole
+  where
+    whole_count : Option Whole → ℕ
+    whole_count None = 0
+    whole_count (Some whole) = whole.frames
+
+-- a summary counts at most so much
+pub record CountsAtMost (n : ℕ) (summary : Summary) : Type 0 where
+  pub skipped : summary.skipped ≤ n
+  pub frames : whole_frames summary.frames ≤ n
+
+-- The bytes of a file.
+
+-- how many bytes were fed bounds all counts
+pub record IsSteady (progress : Progress) (fed : ℕ) : Type 0 where
+  pub fit : IsFit progress.summary
+  pub counts : CountsAtMost progress.lines progress.summary
+  pub lines : progress.lines ≤ fed
+
+-- these bytes were read: none of their finished lines is wrong, and what is held of them is their summary and the
+-- bytes behind it
+pub record Follows (progress : Progress) (bytes : List ℕ) : Type 0 where
+  pub cut : cutters.StandsFor progress.cutter bytes
+  pub lines : progress.lines ≡ length (history_of bytes)
+  pub sums : Sums progress.summary (history_of bytes)
+  pub right : first_wrong_of bytes ≡ None
 
 -- where reading stops behind so many lines
 abbrev pub stop_of : ℕ → LineFault → ReadStop
 stop_of lines (faults.Refused cause) = stops.Refused (record { line = lines + 1; cause = cause })
 stop_of lines faults.Memory = stops.Memory
+
+-- reading stops at a line behind so many, for the cause that it has or for want of memory
+pub record StopsLine (lines : ℕ) (cause : Option Cause) (stop : ReadStop) : Type 0 where
+  pub fault : LineFault
+  pub why : IsFault fault cause
+  pub stops : stop ≡ stop_of lines fault
+
+-- what reading bytes comes to
+abbrev pub Feeds : Result Unit ReadStop → Progress → List ℕ → Type 0
+Feeds (Ok done) progress bytes = Follows progress bytes
+Feeds (Err stop) progress bytes = IsStop stop (first_wrong_of bytes)
+
+-- what reading up to these bytes comes to, whatever stands behind them
+abbrev pub Advances : Result Bool ReadStop → Progress → List ℕ → Type 0
+Advances (Ok more) progress bytes = Follows progress bytes
+Advances (Err stop) progress bytes = (rest : List ℕ) → IsStop stop (first_wrong_of (bytes ++ rest))
+
+-- A reader of files: what it holds, and why it stopped, if it did
+pub record Standing : Type 0 where
+  pub progress : Progress
+  pub stop : Option ReadStop
+
+-- a reader goes on that was fed these bytes, none of whose finished lines is wrong
+pub record StandsFor (reader : Standing) (bytes : List ℕ) : Type 0 where
+  pub follows : Follows reader.progress bytes
+  pub fed : reader.progress.fed ≡ length bytes
+  pub goes_on : reader.stop ≡ None
+
+-- what a reader answers that stood for bytes and was fed more, with which they are these
+abbrev pub Answers : Result Unit ReadStop → Standing → List ℕ → Type 0
+Answers (Ok done) reader bytes = StandsFor reader bytes
+Answers (Err stop) reader bytes = IsStop stop (first_wrong_of bytes)
+
+-- what a reader answers at the end of the bytes that it stands for, by the verdict on them
+abbrev pub Ends : Result Loaded ReadStop → Result Loaded Refused → Type 0
+Ends (Ok loaded) verdict = verdict ≡ Ok loaded
+Ends (Err (stops.Refused refused)) verdict = verdict ≡ Err refused
+Ends (Err stops.Memory) verdict = ⊥

@@ -1,17 +1,19 @@
-ghost use Rattle.std.specs.Prelude.{◌≡◌, ℕ, ◌+◌, ◌-◌, ◌<◌, ◌≤◌, true, false, List, ◌∷◌, ◌++◌, length, take, drop, is_some, None, Some, IfErr, OnOk};
+ghost use Rattle.std.specs.Prelude.{◌≡◌, Bool, ℕ, ◌+◌, ◌-◌, ◌<◌, ◌≤◌, true, false, List, [], ◌∷◌, ◌++◌, length, take, drop, is_some, None, Some, IfOk, IfErr, OnOk};
 ghost use Rattle.std.specs.List.{list_all};
 ghost use Rattle.bfm_base.specs.Place.{extent_of};
 ghost use Rattle.bond_set.specs.BondSet.{vector_of};
 ghost use Rattle.bfm_geom.specs.Walls.{is_within_walls};
 ghost use Rattle.bfm_world.specs.Configuration.{reach_of, IsSound, may_bond, position_at};
 ghost use Rattle.bfm_world.specs.Draft.{with_positions, with_bonds};
-ghost use Rattle.bfm_commands.specs.Causes.{cause_of, placing_cause, positions_cause, is_overfull, some_fails, is_apart, is_bonded_well};
-ghost use Rattle.bfm_commands.specs.History.{string_positions, with_line, with_pairs, chain};
+ghost use Rattle.bfm_commands.specs.Causes.{frame_cause, is_overfull, some_fails, is_apart, is_bonded_well, some_unbonded};
+ghost use Rattle.bfm_commands.specs.Forms.{frame_line};
+ghost use Rattle.bfm_commands.specs.History.{string_positions, line_positions, given_in, with_pairs, chain};
+ghost use Rattle.bfm_commands.specs.Placing.{placing_cause, positions_cause, later_cause, with_line, with_later_line};
+ghost use Rattle.bfm_commands.specs.Reading.{IsFault, IsLineBegun};
 
-use crate::entries::frame_line;
 use crate::fault::LineFault;
-use crate::lines::without_return;
-use bfm_base::limits::{LONGEST_LINE, MOST_MONOMERS, START_REACH, WORLD_REACH};
+use crate::forms::frame_line;
+use bfm_base::limits::{MOST_MONOMERS, START_REACH, WORLD_REACH};
 use bfm_base::{Cause, P3};
 use bfm_geom::shifted;
 use bfm_world::{WorldBuilder, is_clear, is_within_walls, keeps_bonds};
@@ -27,36 +29,65 @@ pub(crate) struct FrameLines {
 }
 
 impl FrameLines {
-    ghost use Rattle.bfm_commands.specs.Reading.{IsFrame, IsFault};
+    /// Begins the next frame.
+    pub fn begin(&mut self)
+        ensures builder { self.new.builder ≡ with_positions self.old.builder [] }
+        ensures list { self.new.positions.items ≡ [] }
+    {
+        self.builder.begin();
+        self.positions.clear();
+    }
 
-    /// Takes the next line.
-    pub fn take(&mut self, line: &[u8]) -> Result<(), LineFault>
+    /// Takes a line of the first frame, whose successive monomers are bonded by it.
+    pub fn take_first(&mut self, text: &[u8]) -> Result<(), LineFault>
         requires list { self.old.positions.items ≡ self.old.builder.world.positions }
         requires reach { reach_of self.old.positions.items ≤ WORLD_REACH }
-        ensures taken { OnOk result ((lines : List (List ℕ)) → IsFrame self.old.builder lines
-            → (cause_of lines line.now ≡ None) × IsFrame self.new.builder (line.now ∷ lines)) }
+        ensures taken { OnOk result ((frame_cause true self.old.builder text.now ≡ None)
+            × (self.new.builder ≡ with_line self.old.builder (line_positions self.old.builder.world.set (given_in frame_line (Some text.now))))) }
         ensures list { OnOk result (self.new.positions.items ≡ self.new.builder.world.positions) }
         ensures reach { OnOk result (reach_of self.new.positions.items ≤ WORLD_REACH) }
-        ensures refused { IfErr result (λ fault. (lines : List (List ℕ)) → IsFrame self.old.builder lines → IsFault fault (cause_of lines line.now)) }
+        ensures refused { IfErr result (λ fault. IsFault fault (frame_cause true self.old.builder text.now)) }
     {
-        if line.len() > LONGEST_LINE {
-            return Err(LineFault::Refused(Cause::OutOfLimit));
-        }
         let begun = self.positions.len();
-        let count = self.builder.count() as usize;
-        if begun >= count {
-            return Err(LineFault::Refused(Cause::Unbuilt));
-        }
-        let (first, identifiers) = frame_line(without_return(line))?;
+        self.add_line(text)?;
+        place_line(&mut self.builder, &self.positions, begun)?;
+        Ok(())
+    }
+
+    /// Takes a line of a later frame, whose successive monomers have to be bonded.
+    pub fn take_later(&mut self, text: &[u8]) -> Result<(), LineFault>
+        requires list { self.old.positions.items ≡ self.old.builder.world.positions }
+        requires reach { reach_of self.old.positions.items ≤ WORLD_REACH }
+        ensures taken { OnOk result ((frame_cause false self.old.builder text.now ≡ None)
+            × (self.new.builder ≡ with_later_line self.old.builder (line_positions self.old.builder.world.set (given_in frame_line (Some text.now))))) }
+        ensures list { OnOk result (self.new.positions.items ≡ self.new.builder.world.positions) }
+        ensures reach { OnOk result (reach_of self.new.positions.items ≤ WORLD_REACH) }
+        ensures refused { IfErr result (λ fault. IsFault fault (frame_cause false self.old.builder text.now)) }
+    {
+        let begun = self.positions.len();
+        self.add_line(text)?;
+        place_later_line(&mut self.builder, &self.positions, begun)?;
+        Ok(())
+    }
+
+    /// Adds the positions that a line gives to the list, where they are not too many.
+    fn add_line(&mut self, text: &[u8]) -> Result<(), LineFault>
+        requires list { self.old.positions.items ≡ self.old.builder.world.positions }
+        requires reach { reach_of self.old.positions.items ≤ WORLD_REACH }
+        ensures same { self.new.builder ≡ self.old.builder }
+        ensures added { OnOk result (IsLineBegun self.old.builder text.now self.new.positions.items) }
+        ensures refused { IfErr result (λ fault. (first : Bool) → IsFault fault (frame_cause first self.old.builder text.now)) }
+    {
+        let (first, identifiers) = frame_line(text)?;
         let set = self.builder.set();
         if !are_known(set, identifiers) {
             return Err(LineFault::Refused(Cause::UnknownId));
         }
-        if begun + 1 + identifiers.len() > count {
+        if self.positions.len() + 1 + identifiers.len() > self.builder.count() as usize {
             return Err(LineFault::Refused(Cause::FrameLong));
         }
         add_positions(&mut self.positions, set, first, identifiers)?;
-        Ok(place_line(&mut self.builder, &self.positions, begun)?)
+        Ok(())
     }
 }
 
@@ -83,6 +114,40 @@ fn place_line(builder: &mut WorldBuilder, positions: &[P3], begun: usize) -> Res
         return Err(least_cause(builder, positions, begun).unwrap());
     }
     join_successive(builder, begun, positions.len() - 1 - begun)
+}
+
+/// Places the monomers from one on where the list of positions says, where successive ones are
+/// bonded.
+fn place_later_line(builder: &mut WorldBuilder, positions: &[P3], begun: usize) -> Result<(), Cause>
+    requires begun { begun < length positions.now }
+    requires placed { builder.old.world.positions ≡ take begun positions.now }
+    requires room { length positions.now ≤ builder.old.count }
+    requires reach { reach_of positions.now ≤ WORLD_REACH }
+    requires sound { IsSound builder.old.count builder.old.world }
+    ensures ok { OnOk result ((builder.new ≡ with_later_line builder.old (drop begun positions.now)) × (later_cause builder.old (drop begun positions.now) ≡ None)) }
+    ensures err { IfErr result (λ cause. later_cause builder.old (drop begun positions.now) ≡ Some cause) }
+{
+    if !place_all(builder, positions) {
+        return Err(least_cause(builder, positions, begun).unwrap());
+    }
+    if some_unbonded(builder, begun, positions.len() - 1 - begun) {
+        return Err(Cause::BondUnknown);
+    }
+    Ok(())
+}
+
+/// Whether some of so many successive monomers from one on is not bonded to the next.
+fn some_unbonded(builder: &WorldBuilder, first: usize, count: usize) -> bool
+    requires placed { first + count < builder.now.count }
+    requires few { builder.now.count ≤ MOST_MONOMERS }
+    ensures { result ≡ some_unbonded builder.now.world.bonds (chain first count) }
+{
+    for k in first..first + count {
+        if !builder.bonded(k as u32, k as u32 + 1) {
+            return true;
+        }
+    }
+    false
 }
 
 /// Adds the position of a line's first monomer, and those that its identifiers lead to.

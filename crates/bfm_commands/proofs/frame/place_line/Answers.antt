@@ -2,7 +2,7 @@ use Rattle.std.proofs.Common.{◌≡◌, ◌∙◌, ap, subst, length, take, dro
 use Rattle.std.proofs.lemmas.Result.{MatchResult-weaker, on_ok_weaker}
 use Rattle.bfm_base.specs.declared.place.P3.{P3}
 use Rattle.bfm_world.specs.Draft.{Draft, with_positions}
-use Rattle.bfm_commands.specs.Causes.{placing_cause}
+use Rattle.bfm_commands.specs.Placing.{placing_cause}
 use Rattle.bfm_commands.proofs.SuccessiveLemmas.{LineOutcome-placing, LineOutcome-ok, LineOutcome-err}
 use Rattle.bfm_commands.proofs.frame.place_line.Goals as goal
 

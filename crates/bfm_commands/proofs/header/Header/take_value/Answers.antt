@@ -1,14 +1,17 @@
-use Rattle.std.proofs.Common.{◌≡◌, ◌*◌, cond, length, Option, None, Some, is_some, ℕ, refl, ap, sym, subst, arith}
-use Rattle.bfm_base.specs.declared.cause.Cause.TheVariants.{Unbuilt}
-use Rattle.bfm_commands.specs.Numbers.{given}
-use Rattle.bfm_commands.specs.History.{setting_at, value_at}
-use Rattle.bfm_commands.specs.Causes.{fitting}
-use Rattle.bfm_commands.proofs.HeaderLemmas.{IsHeader-value}
+use Rattle.std.proofs.Common.{◌∷◌, List, Ok, sym, ap, ◌∙◌}
+use Rattle.bfm_commands.specs.Reading.{value_fault}
+use Rattle.bfm_commands.specs.History.{stands}
+use Rattle.bfm_commands.specs.declared.header.Header.{Header}
+use Rattle.bfm_commands.specs.declared.settings.Given.{Given}
+use Rattle.bfm_commands.proofs.ValueLemmas.{natural_in-value}
 use Rattle.bfm_commands.proofs.header.Header.take_value.Goals as goal
 
 pub returns-clause-taken : goal.returns-clause-taken
-returns-clause-taken c lines line h e =
-    let seven : length c.args.self.now.values ≡ 7 = omega arith in
-    let fits = sym (c.in-Some.ensures lines h) in
-    let of_line = subst (λ text. fitting (length lines) (value_at lines 1 * value_at lines 2) (given (setting_at (length lines)) text) ≡ Some c.in-Some.value) (sym e) fits in
-    (ap (λ (o : Option ℕ). cond (is_some o) None (Some Unbuilt)) fits, IsHeader-value c.args.self.now _ lines line h refl c.in-Some.value c.requires seven of_line refl refl refl refl)
+returns-clause-taken c =
+    let header : Header = c.args.self.now in
+    let value = natural_in-value c.args.rest.now c.args.least c.args.greatest c.in_ok-value.value (sym c.value_of.ensures.value ∙ c.in_ok-value.was) in (
+      ap (λ r. value_fault r (stands c.args.command header.settings)) (sym c.value_of.ensures.value ∙ c.in_ok-value.was)
+          ∙ ap (λ b. value_fault (Ok c.in_ok-value.value) b) (sym c.stands.ensures ∙ c.if-stands.false),
+      ap (λ (settings : List Given). record { settings = settings; set = header.set; pairs = header.pairs })
+          (c.in_ok-give.ensures ∙ ap (λ v. record { command = c.args.command; value = v } ∷ header.settings) (sym value)),
+    )

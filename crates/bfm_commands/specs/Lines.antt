@@ -1,7 +1,0 @@
--- The text of lines.
-use Rattle.std.specs.Prelude.{ℕ, List, [], ◌∷◌, ◌++◌}
-
--- lines, each with its newline
-abbrev pub text_of : List (List ℕ) → List ℕ
-text_of [] = []
-text_of (line ∷ lines) = (line ++ 10 ∷ []) ++ text_of lines
