@@ -96,10 +96,11 @@ fn the_first_job_and_its_words(rt: HostRuntime) -> Result<(), Fail> {
 
 // (monomers, whether y is periodic, time, positions, words, what is written after the file, the report)
 #[rattlefmt::skip]
-const WORKED: [(&str, &str, &str, &str, &str, Option<&str>, &str); 10] = [
+const WORKED: [(&str, &str, &str, &str, &str, Option<&str>, &str); 11] = [
     ("1", "1", "0", "3 3 3\n", "run seed=42 frames=2 every=1", Some("\n!mcs=1\n3 4 3\n\n!mcs=2\n3 4 4\n"), "kept 104\nframes 2\nmcs 2\nskipped 0\naccepted 2\nlinks 0\ncrossing free\n"),
     ("1", "1", "0", "3 3 3\n", "run seed=42 frames=1 every=2", Some("\n!mcs=2\n3 4 4\n"), "kept 104\nframes 1\nmcs 2\nskipped 0\naccepted 2\nlinks 0\ncrossing free\n"),
     ("1", "1", "0", "3 3 3\r\n", WORDS, Some(ADDED), "kept 105\nframes 1\nmcs 1\nskipped 0\naccepted 1\nlinks 0\ncrossing free\n"),
+    ("1", "1", "0", "3 3 3\n\n!mcs=1\n3 4 3\n", WORDS, Some("\n!mcs=2\n3 4 4\n"), "kept 118\nframes 1\nmcs 2\nskipped 0\naccepted 1\nlinks 0\ncrossing free\n"),
     ("1", "1", "0", "3 3 3\n", "run seed=42 frames=0 every=1", Some(""), "kept 104\nframes 0\nmcs 0\nskipped 0\naccepted 0\nlinks 0\ncrossing free\n"),
     ("2", "1", "0", "0 0 0\n0 6 0\n", WORDS, Some("\n!mcs=1\n0 0 0\n0 6 1\n"), "kept 110\nframes 1\nmcs 1\nskipped 0\naccepted 1\nlinks 0\ncrossing free\n"),
     ("1", "0", "0", "3 6 3\n", WORDS, Some("\n!mcs=1\n3 6 3\n"), "kept 104\nframes 1\nmcs 1\nskipped 0\naccepted 0\nlinks 0\ncrossing free\n"),
@@ -127,6 +128,32 @@ fn worked_cases(rt: HostRuntime) -> Result<(), Fail> {
                 assert!(rt; ended.output.bytes().is_empty());
             }
         }
+    }
+    Ok(())
+}
+
+// The first file with carriage returns, a version, a command that is not known, and 153 bytes.
+const FOREIGN: &str =
+    "#!version=2.0\r\n!number_of_monomers=1\r\n!box_x=8\r\n!box_y=8\r\n!box_z=8\r\n\
+    !periodic_x=1\r\n!periodic_y=1\r\n!periodic_z=1\r\n!my_interaction 1 2 0.5\r\n!mcs=0\r\n3 3 3\r\n";
+
+// (what is kept, what stands behind it, the report)
+#[rattlefmt::skip]
+const TAILS: [(&str, &str, &str); 3] = [
+    (ONE, "\n!mcs=1\n3 4 3", REPORT),
+    (ONE, "\n!mcs=1\n", REPORT),
+    (FOREIGN, "\r\n", "kept 153\nframes 1\nmcs 1\nskipped 2\naccepted 1\nlinks 0\ncrossing free\n"),
+];
+
+#[test]
+fn what_stands_behind_the_last_whole_frame_is_left_out(rt: HostRuntime) -> Result<(), Fail> {
+    for (kept, tail, report) in TAILS {
+        let file = format!(in rt.alloc(); "{kept}{tail}")?;
+        let ended = answer_to(rt.alloc(), WORDS, file.as_bytes(), 1000)?;
+        let output = format!(in rt.alloc(); "{kept}{ADDED}")?;
+        assert_eq!(rt; ended.status, Status::Done, "{tail:?}");
+        assert!(rt; ended.output.bytes() == output.as_bytes(), "{tail:?}");
+        assert!(rt; ended.report.bytes() == report.as_bytes(), "{tail:?}");
     }
     Ok(())
 }
@@ -326,10 +353,10 @@ fn chains_move_as_another_hand_computed(rt: HostRuntime) -> Result<(), Fail> {
 const REFUSALS: [(&str, &str, &str, &str, Status, &str); 7] = [
     ("1", "1", "0", "3 3 3", Status::BadFile, "line 9 cause 18 NoFrame\n"),
     ("2", "1", "0", "0 0 0\n", Status::BadFile, "line 10 cause 18 NoFrame\n"),
-    ("262145", "1", "0", "0 0 0\n", Status::BadFile, "line 1 cause 19 Unbuilt\n"),
-    ("1", "2", "0", "0 0 0\n", Status::BadFile, "line 6 cause 19 Unbuilt\n"),
-    ("1", "1", "0", "0 0\n", Status::BadFile, "line 9 cause 19 Unbuilt\n"),
-    ("1", "1", "0", "0 0 0\n\n!mcs=1\n0 0 0\n", Status::BadFile, "line 10 cause 19 Unbuilt\n"),
+    ("262145", "1", "0", "0 0 0\n", Status::BadFile, "line 1 cause 2 OutOfLimit\n"),
+    ("1", "2", "0", "0 0 0\n", Status::BadFile, "line 6 cause 2 OutOfLimit\n"),
+    ("1", "1", "0", "0 0\n", Status::BadFile, "line 9 cause 1 BadLine\n"),
+    ("1", "1", "0", "0 0 0\n\n!mcs=1\nx\n", Status::BadFile, "line 12 cause 1 BadLine\n"),
     ("1", "1", "0", "-17592186044416 0 0\n", Status::TooFar, "far 1 17592186044417\n"),
 ];
 

@@ -1,7 +1,10 @@
 -- What reading a file from a source comes to.
-use Rattle.std.specs.Prelude.{◌≡◌, ℕ, ◌<◌, ◌≤◌, List, Option, None, Some, length, take, Ok, Err}
+use Rattle.std.specs.Prelude.{◌≡◌, ℕ, ◌<◌, ◌≤◌, List, Option, None, Some, length, take, Result, Ok, Err}
 use Rattle.std.specs.Io.KnownBytes.{IsAtEnd}
 use Rattle.bfm_base.specs.Faults.{Rose}
+use Rattle.bfm_base.specs.declared.cause.Refused.{Refused}
+use Rattle.bfm_base.specs.declared.cause.ReadStop.{ReadStop}
+use Rattle.bfm_base.specs.declared.cause.ReadStop.TheVariants as stops
 use Rattle.bfm_commands.specs.Verdict.{verdict_of}
 use Rattle.bfm_commands.specs.declared.loaded.Loaded.{Loaded}
 use Rattle.bfm_session.specs.declared.loading.LoadFault.{LoadFault}
@@ -35,6 +38,11 @@ pub record Judged (limit : ℕ) (old new : Supply) (bytes : List ℕ) : Type 0 w
 abbrev pub IsLoaded : Loaded → List ℕ → ℕ → Supply → Supply → Type 0
 IsLoaded loaded kept limit old new =
     (bytes : List ℕ) × Judged limit old new bytes × (verdict_of bytes ≡ Ok loaded) × (kept ≡ take loaded.kept bytes)
+
+-- a reader that stops says why the file is refused, or wants memory
+abbrev pub IsRefusal : ReadStop → Result Loaded Refused → Type 0
+IsRefusal (stops.Refused refused) verdict = verdict ≡ Err refused
+IsRefusal stops.Memory verdict = Unit {0}
 
 -- why a file was not loaded
 abbrev pub Stops : LoadFault → ℕ → Supply → Supply → Type 0

@@ -1,11 +1,12 @@
-ghost use Rattle.std.specs.Prelude.{◌≡◌, ◌≤◌, vec_len, IfOk, IfErr};
+ghost use Rattle.std.specs.Prelude.{◌≡◌, ◌≤◌, length, vec_len, Ok, IfOk, IfErr};
 ghost use Rattle.std.specs.Io.KnownBytes.{Consumes, IsAtEnd};
 ghost use Rattle.bfm_base.specs.declared.limits.TheConstants.{GREATEST_LIMIT, GREATEST_MCS};
 ghost use Rattle.bfm_world.specs.Configuration.{IsValid};
-ghost use Rattle.bfm_session.specs.Loading.{IsLoaded, Stops, supply};
+ghost use Rattle.bfm_commands.specs.Verdict.{verdict_of};
+ghost use Rattle.bfm_session.specs.Loading.{IsLoaded, IsRefusal, Stops, supply};
 
 use bfm_base::{ReadStop, Refused, Source};
-use bfm_commands::{Loaded, read_whole};
+use bfm_commands::{Loaded, Reader};
 use std::alloc::Global;
 
 /// Why a file was not loaded.
@@ -41,7 +42,7 @@ pub fn load<I: Source>(
     ensures kept { IfOk result (λ read. vec_len read.1 ≡ read.0.kept) }
 {
     let mut bytes = read_all(alloc, input, limit as usize)?;
-    match read_whole(alloc, &bytes) {
+    match read_bytes(alloc, &bytes) {
         Ok(loaded) => {
             bytes.truncate(loaded.kept as usize);
             Ok((loaded, bytes))
@@ -74,4 +75,20 @@ fn read_all<I: Source>(alloc: Global, input: &mut I, limit: usize) -> Result<Vec
         }
     }
     Err(LoadFault::TooLong)
+}
+
+/// What a file of these bytes gives.
+fn read_bytes(alloc: Global, bytes: &[u8]) -> Result<Loaded, ReadStop>
+    requires { length bytes.now ≤ GREATEST_LIMIT }
+    ensures ok { IfOk result (λ loaded. verdict_of bytes.now ≡ Ok loaded) }
+    ensures refused { IfErr result (λ stop. IsRefusal stop (verdict_of bytes.now)) }
+    ensures valid { IfOk result (λ loaded. IsValid loaded.world) }
+    ensures mcs { IfOk result (λ loaded. loaded.mcs ≤ GREATEST_MCS) }
+    ensures kept { IfOk result (λ loaded. loaded.kept ≤ length bytes.now) }
+{
+    let Ok(mut reader) = Reader::new(alloc) else {
+        return Err(ReadStop::Memory);
+    };
+    reader.feed(bytes)?;
+    reader.end()
 }
