@@ -16,6 +16,21 @@ pub const MOST_SITES: u32 = 16_777_216;
 /// The greatest number of bonds of a monomer.
 pub const MOST_BONDS: usize = 8;
 
+/// The greatest label of a monomer: 2^31 - 1.
+pub const GREATEST_LABEL: u32 = 2_147_483_647;
+
+/// The greatest valence of a monomer: as many bonds as it may have by linking.
+pub const GREATEST_VALENCE: u8 = 8;
+
+/// The greatest class of a monomer. Its class is its label where that is from 1 to this, else 0.
+pub const GREATEST_CLASS: u8 = 15;
+
+/// The greatest absolute weight of a contact.
+pub const GREATEST_WEIGHT: u64 = 1_000;
+
+/// The greatest acceptance threshold: 2^32.
+pub const GREATEST_THRESHOLD: u64 = 4_294_967_296;
+
 /// The greatest number of vectors in a bond set.
 pub const MOST_VECTORS: usize = 200;
 
