@@ -2,9 +2,9 @@
 use Rattle.std.proofs.Common.{◌≡◌, ℕ, zero, suc, ◌<◌, ◌≤◌, Bool, true, false, not, ◌&&◌, inl, inr, ◌≢◌, List, [], ◌∷◌, ◌++◌, length, get_or, remove, refl, ap, sym, ◌∙◌, subst, arith, AllPairs, length-append}
 use Rattle.std.specs.Prelude.{slice_get}
 use Rattle.std.proofs.Math.ListN.{set}
-use Rattle.std.proofs.lemmas.List.{get_or-set_same, get_or-set_other, length-set, get_or_append_left}
+use Rattle.std.proofs.lemmas.List.{get_or-set_same, get_or-set_other, length-set, length-replicate, get_or_append_left}
 use Rattle.std.proofs.Math.Seq.{get_or-append_seam}
-use Rattle.std.proofs.lemmas.List.Elements.{All-set, All-push}
+use Rattle.std.proofs.lemmas.List.Elements.{All-set, All-push, All-replicate}
 use Rattle.std.proofs.lemmas.Bool.Decides.{eqb_tells}
 use Rattle.bfm_base.specs.declared.place.P3.{P3}
 use Rattle.bfm_base.specs.declared.place.Shape.{Shape}
@@ -12,14 +12,15 @@ use Rattle.bfm_base.specs.declared.place.Dir.{Dir}
 use Rattle.bfm_geom.specs.Difference.{overlaps}
 use Rattle.bfm_geom.proofs.DifferenceLemmas.{overlaps-symmetric}
 use Rattle.bfm_base.specs.Place.{extent_of}
-use Rattle.bfm_base.specs.declared.limits.TheConstants.{MOST_MONOMERS, WORLD_REACH}
+use Rattle.bfm_base.specs.declared.limits.TheConstants.{MOST_MONOMERS, WORLD_REACH, GREATEST_LABEL, GREATEST_VALENCE}
 use Rattle.bfm_geom.specs.Walls.{is_within_walls}
-use Rattle.bfm_world.specs.Configuration.{Configuration, IsSound, IsValid, is_clear, is_legal, moved, target_of, may_bond, keeps_bonds, position_at, reach_of}
+use Rattle.bfm_world.specs.Configuration.{Configuration, AreMarked, IsSound, IsValid, is_clear, is_fixed, is_legal, moved, target_of, may_bond, keeps_bonds, position_at, reach_of}
 use Rattle.bfm_world.proofs.BondLemmas.{and_left, and_right}
 use Rattle.bfm_world.proofs.ReachLemmas.{reach_of-set}
 use Rattle.bfm_world.specs.Draft.{begun, may_join}
-use Rattle.bfm_world.specs.Bonds.{AreBonds, neighbours_of, are_bonded, is_full, with_bond}
+use Rattle.bfm_world.specs.Bonds.{AreBonds, neighbours_of, are_bonded, is_full, with_bond, without_bond}
 use Rattle.bfm_world.proofs.BondLemmas.{AreBonds-with_bond, AreBonds-none}
+use Rattle.bfm_world.proofs.PartLemmas.{AreBonds-without_bond, was_still}
 use Rattle.bfm_world.proofs.VectorLemmas.{HasVectors-placed, HasVectors-moved, HasVectors-joined, may_reach-at}
 use Rattle.bond_set.specs.BondSet.{IsBondSet, IsSymmetric}
 use Rattle.bfm_geom.specs.Difference.{IsBox}
@@ -72,11 +73,12 @@ pair_push R xs v others apart i j d less end =
 -- a legal step leaves a valid world
 pub IsValid-moved : (w : Configuration) (i : ℕ) (d : Dir) → IsValid w → i < length w.positions → is_legal w i d ≡ true → IsValid (moved w i d)
 IsValid-moved w i d v l h =
+    let movable = not (is_fixed w i) in
     let walls = is_within_walls w.shape (target_of w i d) in
     let free = is_clear w.shape (remove w.positions i) (target_of w i d) in
     let kept = keeps_bonds w.shape w.set w.positions (neighbours_of w.bonds i) (target_of w i d) in
-    let both = and_left (walls && free) kept h in
-    let clear = clear_of_others w.shape w.positions i (target_of w i d) (and_right walls free both) in
+    let both = and_left (movable && walls && free) kept h in
+    let clear = clear_of_others w.shape w.positions i (target_of w i d) (and_right (movable && walls) free both) in
     record {
       box = v.box;
       set = v.set;
@@ -84,11 +86,12 @@ IsValid-moved w i d v l h =
       some = omega (arith, length-set w.positions i (target_of w i d), v.some);
       few = omega (arith, length-set w.positions i (target_of w i d), v.few);
       room = omega arith;
-      inside = All-set (λ p. is_within_walls w.shape p ≡ true) w.positions i (target_of w i d) (and_left walls free both) v.inside;
+      inside = All-set (λ p. is_within_walls w.shape p ≡ true) w.positions i (target_of w i d) (and_right movable walls (and_left (movable && walls) free both)) v.inside;
       apart = pair_set (λ p q. overlaps w.shape p q ≡ false) w.positions i (target_of w i d)
           (λ j e ne k. (clear j e ne k, overlaps-symmetric w.shape (target_of w i d) (get_or w.positions j e) v.box.sides ∙ clear j e ne k)) v.apart l;
       bonds = subst (λ n. AreBonds n w.bonds) (sym (length-set w.positions i (target_of w i d))) v.bonds;
-      vectors = HasVectors-moved w.shape w.set v.box v.set v.symmetric (length w.positions) w.positions w.bonds i (target_of w i d) v.bonds v.vectors l (and_right (walls && free) kept h);
+      vectors = HasVectors-moved w.shape w.set v.box v.set v.symmetric (length w.positions) w.positions w.bonds i (target_of w i d) v.bonds v.vectors l (and_right (movable && walls && free) kept h);
+      marks = subst (λ n. AreMarked n w.labels w.valences w.fixed) (sym (length-set w.positions i (target_of w i d))) v.marks;
     }
 
 -- what `World::shift` keeps, where w are the fields and v is the world that a caller sees
@@ -116,6 +119,7 @@ IsSound-placed n w p s l h k kept = record {
   apart = pair_push (λ q r. overlaps w.shape q r ≡ false) w.positions p (clear_at w.shape w.positions p k) s.apart;
   bonds = s.bonds;
   vectors = HasVectors-placed w.shape w.set s.box s.set s.symmetric n w.positions w.bonds p s.bonds s.vectors kept;
+  marks = s.marks;
 }
 
 may_join-at : (w : Configuration) (p q : List P3) (i j : ℕ) → may_join w (slice_get p i) (slice_get q j) ≡ true → i < length p → j < length q → may_bond w.shape w.set (position_at p i) (position_at q j) ≡ true
@@ -137,6 +141,7 @@ IsSound-joined n w i j s ne l m new may room_i room_j = record {
   apart = s.apart;
   bonds = AreBonds-with_bond n w.bonds i j s.bonds ne l m new room_i room_j;
   vectors = HasVectors-joined w.shape w.set s.box s.set s.symmetric w.positions w.bonds i j s.vectors ne (omega (arith, s.bonds.rows)) (omega (arith, s.bonds.rows)) (may_join-at w w.positions w.positions i j may);
+  marks = s.marks;
 }
 
 -- a world in which nothing is placed and nobody is bonded
@@ -152,6 +157,13 @@ IsSound-begun shape set n box bond_set symmetric some few = record {
   apart = λ i j d l m. absurd (omega arith);
   bonds = AreBonds-none n;
   vectors = λ i j l m h. absurd (omega arith);
+  marks = record {
+    labelled = length-replicate n 0;
+    labels = All-replicate (λ label. label ≤ GREATEST_LABEL) n 0 (omega arith);
+    valued = length-replicate n 0;
+    valences = All-replicate (λ valence. valence ≤ GREATEST_VALENCE) n 0 (omega arith);
+    marked = length-replicate n false;
+  };
 }
 
 -- a sound world whose monomers lose their positions
@@ -167,4 +179,89 @@ IsSound-unplaced n w s = record {
   apart = λ i j d l m. absurd (omega arith);
   bonds = s.bonds;
   vectors = λ i j l m h. absurd (omega arith);
+  marks = s.marks;
+}
+
+-- a sound world with one bond less
+pub IsSound-parted : (n : ℕ) (w : Configuration) (i j : ℕ) → IsSound n w → i ≢ j → i < n → j < n → are_bonded w.bonds i j ≡ true → IsSound n (record w { bonds = without_bond w.bonds i j })
+IsSound-parted n w i j s ne l m there =
+    let l' : i < length w.bonds = omega (arith, s.bonds.rows) in
+    let m' : j < length w.bonds = omega (arith, s.bonds.rows) in
+    record {
+      box = s.box;
+      set = s.set;
+      symmetric = s.symmetric;
+      some = s.some;
+      few = s.few;
+      room = s.room;
+      inside = s.inside;
+      apart = s.apart;
+      bonds = AreBonds-without_bond n w.bonds i j s.bonds ne l m;
+      vectors = λ a b k r h. s.vectors a b k r (was_still w.bonds i j ne l' m' s.bonds.ascending a b h);
+      marks = s.marks;
+    }
+
+-- a sound world in which a monomer has another label, or another valence
+pub IsSound-labelled : (n : ℕ) (w : Configuration) (i label : ℕ) → IsSound n w → label ≤ GREATEST_LABEL → IsSound n (record w { labels = set w.labels i label })
+IsSound-labelled n w i label s l = record {
+  box = s.box;
+  set = s.set;
+  symmetric = s.symmetric;
+  some = s.some;
+  few = s.few;
+  room = s.room;
+  inside = s.inside;
+  apart = s.apart;
+  bonds = s.bonds;
+  vectors = s.vectors;
+  marks = record {
+    labelled = length-set w.labels i label ∙ s.marks.labelled;
+    labels = All-set (λ t. t ≤ GREATEST_LABEL) w.labels i label l s.marks.labels;
+    valued = s.marks.valued;
+    valences = s.marks.valences;
+    marked = s.marks.marked;
+  };
+}
+
+pub IsSound-valued : (n : ℕ) (w : Configuration) (i valence : ℕ) → IsSound n w → valence ≤ GREATEST_VALENCE → IsSound n (record w { valences = set w.valences i valence })
+IsSound-valued n w i valence s l = record {
+  box = s.box;
+  set = s.set;
+  symmetric = s.symmetric;
+  some = s.some;
+  few = s.few;
+  room = s.room;
+  inside = s.inside;
+  apart = s.apart;
+  bonds = s.bonds;
+  vectors = s.vectors;
+  marks = record {
+    labelled = s.marks.labelled;
+    labels = s.marks.labels;
+    valued = length-set w.valences i valence ∙ s.marks.valued;
+    valences = All-set (λ v. v ≤ GREATEST_VALENCE) w.valences i valence l s.marks.valences;
+    marked = s.marks.marked;
+  };
+}
+
+-- a sound world in which one more monomer is fixed
+pub IsSound-fixed : (n : ℕ) (w : Configuration) (i : ℕ) → IsSound n w → IsSound n (record w { fixed = set w.fixed i true })
+IsSound-fixed n w i s = record {
+  box = s.box;
+  set = s.set;
+  symmetric = s.symmetric;
+  some = s.some;
+  few = s.few;
+  room = s.room;
+  inside = s.inside;
+  apart = s.apart;
+  bonds = s.bonds;
+  vectors = s.vectors;
+  marks = record {
+    labelled = s.marks.labelled;
+    labels = s.marks.labels;
+    valued = s.marks.valued;
+    valences = s.marks.valences;
+    marked = length-set w.fixed i true ∙ s.marks.marked;
+  };
 }

@@ -1,6 +1,6 @@
 -- The bonds of a world: for each monomer those that it is bonded to, in ascending order. So a set of bonds
 -- has one form. Monomers are counted from 0.
-use Rattle.std.specs.Prelude.{◌≡◌, ◌≢◌, ℕ, ◌<◌, ◌≤◌, Bool, true, nat_lt, nat_le, nat_eq, List, [], ◌∷◌, length, slice_index_or, slice_set, All, if◌then◌else◌}
+use Rattle.std.specs.Prelude.{◌≡◌, ◌≢◌, ℕ, ◌<◌, ◌≤◌, Bool, true, false, nat_lt, nat_le, nat_eq, List, [], ◌∷◌, length, slice_index_or, slice_set, All, if◌then◌else◌}
 use Rattle.std.specs.List.{list_any, AllByRecursion}
 use Rattle.bfm_base.specs.declared.limits.TheConstants.{MOST_BONDS}
 
@@ -21,6 +21,21 @@ put j (k ∷ ks) = if nat_lt j k then j ∷ k ∷ ks else k ∷ put j ks
 -- one bond more: each of the two is then a neighbour of the other
 abbrev pub with_bond : List (List ℕ) → ℕ → ℕ → List (List ℕ)
 with_bond bonds i j = slice_set (slice_set bonds i (put j (neighbours_of bonds i))) j (put i (neighbours_of bonds j))
+
+-- ascending numbers without one of them
+abbrev pub without : ℕ → List ℕ → List ℕ
+without j [] = []
+without j (k ∷ ks) = if nat_eq k j then ks else k ∷ without j ks
+
+-- one bond less: neither of the two is then a neighbour of the other
+abbrev pub without_bond : List (List ℕ) → ℕ → ℕ → List (List ℕ)
+without_bond bonds i j = slice_set (slice_set bonds i (without j (neighbours_of bonds i))) j (without i (neighbours_of bonds j))
+
+-- Two monomers are not bonded to each other now, and whoever else was bonded is so still.
+pub record Separates (i j : ℕ) (old new : List (List ℕ)) : Type 0 where
+  pub gone : are_bonded new i j ≡ false
+  pub back : are_bonded new j i ≡ false
+  pub others : (k m : ℕ) → ¬ ((k ≡ i) × (m ≡ j)) → ¬ ((k ≡ j) × (m ≡ i)) → are_bonded new k m ≡ are_bonded old k m
 
 -- Two monomers are bonded to each other now, and whoever else was bonded is so still.
 pub record Joins (i j : ℕ) (old new : List (List ℕ)) : Type 0 where

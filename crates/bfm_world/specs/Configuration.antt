@@ -1,8 +1,8 @@
 -- A world of monomers as plain data, when it is valid, and the local move in it (Carmesin and
 -- Kremer 1988). Monomers are counted from 0.
-use Rattle.std.specs.Prelude.{◌≡◌, ℕ, ◌<◌, ◌≤◌, max, Bool, true, false, not, ◌&&◌, pos, List, [], ◌∷◌, length, slice_index_or, slice_get, slice_set, remove, All, AllPairs, Option, None, Some, is_some}
+use Rattle.std.specs.Prelude.{◌≡◌, ℕ, ◌<◌, ◌≤◌, max, Bool, true, false, not, ◌&&◌, nat_le, if◌then◌else◌, pos, List, [], ◌∷◌, length, slice_index_or, slice_get, slice_set, remove, All, AllPairs, Option, None, Some, is_some}
 use Rattle.std.specs.List.{list_all}
-use Rattle.bfm_base.specs.declared.limits.TheConstants.{MOST_MONOMERS}
+use Rattle.bfm_base.specs.declared.limits.TheConstants.{MOST_MONOMERS, GREATEST_LABEL, GREATEST_VALENCE, GREATEST_CLASS}
 use Rattle.bfm_base.specs.declared.place.P3.{P3}
 use Rattle.bfm_base.specs.declared.place.Dir.{Dir}
 use Rattle.bfm_base.specs.declared.place.Shape.{Shape}
@@ -14,16 +14,28 @@ use Rattle.bond_set.specs.BondSet.{IsBondSet, IsSymmetric, id_of}
 use Rattle.bfm_world.specs.Bonds.{AreBonds, neighbours_of, are_bonded}
 use Rattle.bfm_world.specs.declared.parts.Parts.{Parts}
 
--- the box, the set of bond vectors with their identifiers, the position of each monomer, and the bonds
+-- the box, the set of bond vectors with their identifiers, the position of each monomer, the bonds, and what is said of
+-- each monomer: its label, how many bonds it may have by linking, and whether it is fixed
 pub record Configuration : Type 0 where
   pub shape : Shape
   pub set : List (P3 × ℕ)
   pub positions : List P3
   pub bonds : List (List ℕ)
+  pub labels : List ℕ
+  pub valences : List ℕ
+  pub fixed : List Bool
 
 -- what the parts of a world hold
 abbrev pub configuration_of : Parts → Configuration
-configuration_of parts = record { shape = parts.shape; set = parts.set; positions = parts.positions.items; bonds = parts.bonds }
+configuration_of parts = record {
+  shape = parts.shape;
+  set = parts.set;
+  positions = parts.positions.items;
+  bonds = parts.bonds;
+  labels = parts.labels.items;
+  valences = parts.valences.items;
+  fixed = parts.fixed.items;
+}
 
 -- a monomer at p overlaps none at these positions
 abbrev pub is_clear : Shape → List P3 → P3 → Bool
@@ -51,6 +63,14 @@ abbrev pub HasVectors : Shape → List (P3 × ℕ) → List P3 → List (List �
 HasVectors shape set positions bonds =
     (i j : ℕ) → i < length positions → j < length positions → are_bonded bonds i j ≡ true → may_bond shape set (position_at positions i) (position_at positions j) ≡ true
 
+-- Each of so many monomers has a label, a valence and a mark whether it is fixed.
+pub record AreMarked (count : ℕ) (label_list valence_list : List ℕ) (fixed_list : List Bool) : Type 0 where
+  pub labelled : length label_list ≡ count
+  pub labels : All (λ label. label ≤ GREATEST_LABEL) label_list
+  pub valued : length valence_list ≡ count
+  pub valences : All (λ valence. valence ≤ GREATEST_VALENCE) valence_list
+  pub marked : length fixed_list ≡ count
+
 -- A world of so many monomers, not all of which need have positions yet: those that have are within the walls and do
 -- not overlap, and each bond between them has a vector of the set, which holds the negative of each of its vectors.
 pub record IsSound (count : ℕ) (w : Configuration) : Type 0 where
@@ -64,6 +84,7 @@ pub record IsSound (count : ℕ) (w : Configuration) : Type 0 where
   pub apart : AllPairs (λ p q. overlaps w.shape p q ≡ false) w.positions
   pub bonds : AreBonds count w.bonds
   pub vectors : HasVectors w.shape w.set w.positions w.bonds
+  pub marks : AreMarked count w.labels w.valences w.fixed
 
 -- the same where each monomer has its position
 abbrev pub IsValid : Configuration → Type 0
@@ -74,6 +95,21 @@ abbrev pub reach_of : List P3 → ℕ
 reach_of [] = 0
 reach_of (p ∷ ps) = max (extent_of p) (reach_of ps)
 
+-- the class of a monomer with this label
+abbrev pub class_of : ℕ → ℕ
+class_of label = if nat_le label GREATEST_CLASS then label else 0
+
+-- the label and the valence of monomer i
+abbrev pub label_of : Configuration → ℕ → ℕ
+label_of w i = slice_index_or w.labels i 0
+
+abbrev pub valence_of : Configuration → ℕ → ℕ
+valence_of w i = slice_index_or w.valences i 0
+
+-- monomer i never moves
+abbrev pub is_fixed : Configuration → ℕ → Bool
+is_fixed w i = slice_index_or w.fixed i false
+
 -- where monomer i stands, and where it would stand after a step
 abbrev pub position_of : Configuration → ℕ → P3
 position_of w i = position_at w.positions i
@@ -81,11 +117,12 @@ position_of w i = position_at w.positions i
 abbrev pub target_of : Configuration → ℕ → Dir → P3
 target_of w i d = plus (position_of w i) (step_of d)
 
--- A step is legal where the new place is within the walls and overlaps no other monomer, and each bond of the
--- monomer keeps a vector of the set.
+-- A step is legal where the monomer is not fixed, the new place is within the walls and overlaps no other monomer, and
+-- each bond of the monomer keeps a vector of the set.
 abbrev pub is_legal : Configuration → ℕ → Dir → Bool
 is_legal w i d =
-    is_within_walls w.shape (target_of w i d)
+    not (is_fixed w i)
+    && is_within_walls w.shape (target_of w i d)
     && is_clear w.shape (remove w.positions i) (target_of w i d)
     && keeps_bonds w.shape w.set w.positions (neighbours_of w.bonds i) (target_of w i d)
 

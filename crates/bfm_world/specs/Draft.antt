@@ -1,10 +1,10 @@
 -- A world that is being built: its bonds may come before its positions.
-use Rattle.std.specs.Prelude.{◌≡◌, ℕ, Bool, true, false, not, ◌&&◌, ◌||◌, nat_lt, nat_eq, List, [], length, replicate, slice_get, Option, None, Some, Result, Ok, Err, if◌then◌else◌}
+use Rattle.std.specs.Prelude.{◌≡◌, ℕ, Bool, true, false, not, ◌&&◌, ◌||◌, nat_lt, nat_eq, List, [], length, replicate, slice_get, slice_set, Option, None, Some, Result, Ok, Err, if◌then◌else◌}
 use Rattle.bfm_base.specs.declared.place.P3.{P3}
 use Rattle.bfm_base.specs.declared.place.Shape.{Shape}
 use Rattle.bfm_base.specs.declared.cause.Cause.{Cause}
-use Rattle.bfm_base.specs.declared.cause.Cause.TheVariants.{Outside, Overlap, BadMonomer, BadBond, TooManyBonds}
-use Rattle.bfm_world.specs.Bonds.{neighbours_of, are_bonded, is_full, Joins}
+use Rattle.bfm_base.specs.declared.cause.Cause.TheVariants.{Outside, Overlap, BadMonomer, BadBond, TooManyBonds, BondUnknown}
+use Rattle.bfm_world.specs.Bonds.{neighbours_of, are_bonded, is_full, Joins, Separates}
 use Rattle.bfm_geom.specs.Walls.{is_within_walls}
 use Rattle.packed_lattice.specs.Sites.{Sites}
 use Rattle.packed_lattice.specs.Cover.{Covers}
@@ -15,9 +15,9 @@ pub record Draft : Type 0 where
   pub world : Configuration
   pub count : ℕ
 
--- a world of n monomers of which none has a position and none is bonded
+-- a world of n monomers of which none has a position, none is bonded or fixed and nothing is said
 abbrev pub begun : Shape → List (P3 × ℕ) → ℕ → Draft
-begun shape set n = record { world = record { shape = shape; set = set; positions = []; bonds = replicate n [] }; count = n }
+begun shape set n = record { world = record { shape = shape; set = set; positions = []; bonds = replicate n []; labels = replicate n 0; valences = replicate n 0; fixed = replicate n false }; count = n }
 
 -- a draft with these positions
 abbrev pub with_positions : Draft → List P3 → Draft
@@ -26,6 +26,17 @@ with_positions draft positions = record draft { world = record draft.world { pos
 -- a draft with these bonds
 abbrev pub with_bonds : Draft → List (List ℕ) → Draft
 with_bonds draft bonds = record draft { world = record draft.world { bonds = bonds } }
+
+-- a draft in which a monomer has this label, or this valence
+abbrev pub with_label : Draft → ℕ → ℕ → Draft
+with_label draft i label = record draft { world = record draft.world { labels = slice_set draft.world.labels i label } }
+
+abbrev pub with_valence : Draft → ℕ → ℕ → Draft
+with_valence draft i valence = record draft { world = record draft.world { valences = slice_set draft.world.valences i valence } }
+
+-- a draft in which a monomer is fixed
+abbrev pub with_fixed : Draft → ℕ → Draft
+with_fixed draft i = record draft { world = record draft.world { fixed = slice_set draft.world.fixed i true } }
 
 -- the sites of the box, where those are taken that the placed monomers cover, and no others
 pub record IsFilled (w : Configuration) (sites : Sites) : Type 0 where
@@ -58,6 +69,18 @@ join_answer draft i j =
     else if not (may_join w (slice_get w.positions i) (slice_get w.positions j)) then Err BadBond
     else if is_full w.bonds i || is_full w.bonds j then Err TooManyBonds
     else Ok true
+
+-- why two monomers may not be separated, if they may not
+abbrev pub part_refusal : Draft → ℕ → ℕ → Option Cause
+part_refusal draft i j =
+    if not (is_pair draft.count i j) then Some BadMonomer
+    else if not (are_bonded draft.world.bonds i j) then Some BondUnknown
+    else None
+
+-- One bond less, and nothing else is new.
+pub record IsParted (i j : ℕ) (old new : Draft) : Type 0 where
+  pub bonds : Separates i j old.world.bonds new.world.bonds
+  pub rest : new ≡ with_bonds old new.world.bonds
 
 -- One bond more, and nothing else is new.
 pub record IsJoined (i j : ℕ) (old new : Draft) : Type 0 where

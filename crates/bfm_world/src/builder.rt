@@ -4,10 +4,11 @@ ghost use Rattle.bfm_base.specs.Place.{extent_of};
 ghost use Rattle.bfm_geom.specs.Difference.{IsBox, overlaps};
 ghost use Rattle.bfm_geom.specs.Walls.{is_within_walls};
 ghost use Rattle.bond_set.specs.BondSet.{IsBondSet, IsSymmetric};
-ghost use Rattle.bfm_world.specs.Bonds.{are_bonded, with_bond};
+ghost use Rattle.bfm_world.specs.Bonds.{are_bonded, with_bond, without_bond};
 ghost use Rattle.packed_lattice.specs.Cover.{Covers};
 ghost use Rattle.bfm_world.specs.Configuration.{IsSound, IsValid, is_clear, reach_of};
-ghost use Rattle.bfm_world.specs.Draft.{begun, with_positions, with_bonds, place_refusal, may_join, join_answer, IsJoined};
+ghost use Rattle.bfm_base.specs.declared.limits.TheConstants.{GREATEST_LABEL, GREATEST_VALENCE};
+ghost use Rattle.bfm_world.specs.Draft.{begun, with_positions, with_bonds, with_label, with_valence, with_fixed, place_refusal, may_join, join_answer, part_refusal, IsJoined, IsParted};
 
 use crate::bonds::Bonds;
 use crate::parts::Parts;
@@ -68,6 +69,9 @@ impl WorldBuilder {
                 set,
                 positions: Vec::with_capacity(alloc, n as usize)?,
                 bonds: Bonds::new(alloc, n)?,
+                labels: vec![in alloc; 0; n as usize]?,
+                valences: vec![in alloc; 0; n as usize]?,
+                fixed: vec![in alloc; false; n as usize]?,
             },
             count: n,
             lattice: Lattice::new(alloc, shape)?,
@@ -108,6 +112,13 @@ impl WorldBuilder {
         ensures { result.now ≡ self.now.world.set }
     {
         &self.parts.set
+    }
+
+    /// All bonds.
+    pub fn bonds(&self) -> &Bonds
+        ensures { result.now ≡ self.now.world.bonds }
+    {
+        &self.parts.bonds
     }
 
     /// The monomers that a monomer is bonded to, each once. They may not have positions yet.
@@ -228,6 +239,56 @@ impl WorldBuilder {
         }
     }
 
+    /// Separates two monomers. It is refused with `BadMonomer` where the two are one or there is no
+    /// such monomer, else with `BondUnknown` where they are not bonded; nothing changes then.
+    pub fn part(&mut self, i: u32, j: u32) -> Result<(), Cause>
+        ensures answer { MatchOption (part_refusal self.old i j) (result ≡ Ok tt) (λ cause. result ≡ Err cause) }
+
+        // The bond is gone at both ends, and it is all that is gone.
+        ensures parted { OnOk result (IsParted i j self.old self.new) }
+        ensures exact { OnOk result (self.new ≡ with_bonds self.old (without_bond self.old.world.bonds i j)) }
+        ensures same { OnErr result (self.new ≡ self.old) }
+        ensures sound { IsSound self.new.count self.new.world }
+    {
+        if i == j || i >= self.count || j >= self.count {
+            return Err(Cause::BadMonomer);
+        }
+        if !self.parts.bonds.are_bonded(i, j) {
+            return Err(Cause::BondUnknown);
+        }
+        self.parts.bonds.part(i, j);
+        Ok(())
+    }
+
+    /// Gives a monomer a label, which replaces the one that it has.
+    pub fn label(&mut self, i: u32, label: u32)
+        requires monomer { i < self.old.count }
+        requires limit { label ≤ GREATEST_LABEL }
+        ensures labelled { self.new ≡ with_label self.old i label }
+        ensures sound { IsSound self.new.count self.new.world }
+    {
+        self.parts.labels[i as usize] = label;
+    }
+
+    /// Gives a monomer a valence, which replaces the one that it has.
+    pub fn valence(&mut self, i: u32, valence: u8)
+        requires monomer { i < self.old.count }
+        requires limit { valence ≤ GREATEST_VALENCE }
+        ensures valued { self.new ≡ with_valence self.old i valence }
+        ensures sound { IsSound self.new.count self.new.world }
+    {
+        self.parts.valences[i as usize] = valence;
+    }
+
+    /// Fixes a monomer: it never moves.
+    pub fn fix(&mut self, i: u32)
+        requires { i < self.old.count }
+        ensures fixed { self.new ≡ with_fixed self.old i }
+        ensures sound { IsSound self.new.count self.new.world }
+    {
+        self.parts.fixed[i as usize] = true;
+    }
+
     /// The world, where each monomer is placed.
     pub fn finish(self) -> World
         requires { length self.world.positions ≡ self.count }
@@ -238,15 +299,20 @@ impl WorldBuilder {
         World::of_parts(parts)
     }
 
-    /// The world with these positions in place of those that were given, where they make it valid.
-    pub fn finish_at(self, positions: Vec<P3>) -> World
-        requires valid { IsValid (with_positions self positions.items).world }
+    /// The world with these positions and bonds in place of those that were given, where they make it
+    /// valid.
+    pub fn finish_at(self, positions: Vec<P3>, bonds: Bonds) -> World
+        requires valid { IsValid (with_bonds (with_positions self positions.items) bonds).world }
         requires reach { reach_of positions.items ≤ WORLD_REACH }
-        ensures world { result ≡ (with_positions self positions.items).world }
+        ensures world { result ≡ (with_bonds (with_positions self positions.items) bonds).world }
         ensures valid { IsValid result }
     {
         let WorldBuilder { parts, .. } = self;
-        World::of_parts(Parts { positions, ..parts })
+        World::of_parts(Parts {
+            positions,
+            bonds,
+            ..parts
+        })
     }
 }
 

@@ -7,15 +7,20 @@
 #![tactic(auto)]
 
 mod bonds;
+mod build_fault;
 mod builder;
 mod engine;
+mod overlaps;
 mod parts;
 mod room;
 #[cfg(test)]
 mod tests;
 mod world;
 
+pub use bonds::Bonds;
+pub use build_fault::BuildFault;
 pub use builder::WorldBuilder;
 pub use engine::Engine;
+pub use overlaps::are_apart;
 pub use room::{is_clear, is_within_walls, keeps_bonds, may_bond};
 pub use world::World;

@@ -9,4 +9,9 @@ pub(crate) struct Parts {
     pub set: BondSet,
     pub positions: Vec<P3>,
     pub bonds: Bonds,
+    pub labels: Vec<u32>,
+    /// How many bonds each monomer may have by linking, 0 for none.
+    pub valences: Vec<u8>,
+    /// Whether each monomer is fixed, so that it never moves.
+    pub fixed: Vec<bool>,
 }

@@ -159,6 +159,72 @@ fn a_bond_between_places_has_a_vector_of_the_set(rt: HostRuntime) -> Result<(), 
     Ok(())
 }
 
+// What separating two of five monomers answers, where 0 is bonded to each of 1 to 4. The rows stand in
+// the order of the calls.
+#[rattlefmt::skip]
+const PARTED: [(u32, u32, Result<(), Cause>); 8] = [
+    (2, 2, Err(Cause::BadMonomer)),
+    (0, 5, Err(Cause::BadMonomer)),
+    (5, 0, Err(Cause::BadMonomer)),
+    (1, 2, Err(Cause::BondUnknown)),
+    (0, 3, Ok(())),
+    (3, 0, Err(Cause::BondUnknown)),
+    (1, 0, Ok(())),
+    (0, 1, Err(Cause::BondUnknown)),
+];
+
+#[test]
+fn a_bond_goes_from_both_ends(rt: HostRuntime) -> Result<(), Fail> {
+    let mut builder = begun(rt.alloc(), 5)?;
+    for j in 1..=4 {
+        assert!(rt; builder.join(0, j) == Ok(true));
+    }
+    for (i, j, answer) in PARTED {
+        assert!(rt; builder.part(i, j) == answer, "at {i} and {j}");
+    }
+    assert!(rt; builder.count() == 5);
+    assert!(rt; builder.neighbours(0) == [2, 4].as_slice());
+    assert!(rt; builder.neighbours(3).is_empty() && builder.neighbours(1).is_empty());
+    assert!(rt; builder.neighbours(4) == [0].as_slice());
+    Ok(())
+}
+
+#[test]
+fn a_monomer_has_a_label_and_a_valence(rt: HostRuntime) -> Result<(), Fail> {
+    let mut builder = begun(rt.alloc(), 3)?;
+    builder.label(0, 15);
+    builder.label(1, 3);
+    builder.label(1, 16);
+    builder.valence(1, 8);
+    builder.valence(2, 2);
+    builder.valence(2, 0);
+    assert!(rt; builder.place(P3 { x: 0, y: 0, z: 0 }).is_ok());
+    assert!(rt; builder.place(P3 { x: 4, y: 0, z: 0 }).is_ok());
+    assert!(rt; builder.place(P3 { x: 0, y: 4, z: 0 }).is_ok());
+    let world = builder.finish();
+    assert_eq!(rt; world.len(), 3);
+    assert!(rt; world.label(0) == 15 && world.label(1) == 16 && world.label(2) == 0);
+    // Labels above 15 have the class of those that have none.
+    assert!(rt; world.class(0) == 15 && world.class(1) == 0 && world.class(2) == 0);
+    assert!(rt; world.valence(0) == 0 && world.valence(1) == 8 && world.valence(2) == 0);
+    Ok(())
+}
+
+#[test]
+fn a_monomer_is_fixed(rt: HostRuntime) -> Result<(), Fail> {
+    let mut builder = begun(rt.alloc(), 3)?;
+    builder.fix(1);
+    builder.fix(2);
+    builder.fix(1);
+    assert!(rt; builder.place(P3 { x: 0, y: 0, z: 0 }).is_ok());
+    assert!(rt; builder.place(P3 { x: 4, y: 0, z: 0 }).is_ok());
+    assert!(rt; builder.place(P3 { x: 0, y: 4, z: 0 }).is_ok());
+    let world = builder.finish();
+    assert_eq!(rt; world.len(), 3);
+    assert!(rt; !world.fixed(0) && world.fixed(1) && world.fixed(2));
+    Ok(())
+}
+
 // Whether a monomer that is bonded to those at (0, 0, 0) and (2, 2, 1) may stand at a place, as far
 // as its bonds go.
 #[rattlefmt::skip]

@@ -4,11 +4,11 @@ ghost use Rattle.bfm_base.specs.Direction.{step_of};
 ghost use Rattle.bfm_base.specs.Place.{extent_of};
 ghost use Rattle.bfm_geom.specs.Difference.{IsBox, plus};
 ghost use Rattle.bfm_world.specs.Bonds.{neighbours_of, are_bonded};
-ghost use Rattle.bfm_world.specs.Configuration.{configuration_of, IsValid, position_of, target_of, is_legal, keeps_bonds, moved, reach_of};
+ghost use Rattle.bfm_world.specs.Configuration.{configuration_of, IsValid, position_of, target_of, label_of, class_of, valence_of, is_fixed, is_legal, keeps_bonds, moved, reach_of};
 
 use crate::parts::Parts;
 use crate::room;
-use bfm_base::limits::{MOST_BONDS, WORLD_REACH};
+use bfm_base::limits::{GREATEST_CLASS, GREATEST_LABEL, GREATEST_VALENCE, MOST_BONDS, WORLD_REACH};
 use bfm_base::{Dir, P3, Shape};
 use bfm_geom::shifted;
 use bond_set::BondSet;
@@ -93,9 +93,10 @@ impl World {
         self.parts.positions[i as usize]
     }
 
-    /// The monomers that a monomer is bonded to, each once.
+    /// The monomers that a monomer is bonded to, each once, in ascending order.
     pub fn neighbours(&self, i: u32) -> &[u32]
         requires { i < length self.now.positions }
+        ensures row { result.now ≡ neighbours_of self.now.bonds i }
         ensures listed { (j : ℕ) → Contains result.now j ↔ (are_bonded self.now.bonds i j ≡ true) }
         ensures each_once { IsDistinct nat_eq result.now }
         ensures few { length result.now ≤ MOST_BONDS }
@@ -126,6 +127,46 @@ impl World {
             neighbours,
             p,
         )
+    }
+
+    /// The label of a monomer, at most 2^31 - 1; 0 where it has none.
+    pub fn label(&self, i: u32) -> u32
+        requires { i < length self.now.positions }
+        ensures label { result ≡ label_of self.now i }
+        ensures limit { result ≤ GREATEST_LABEL }
+    {
+        self.parts.labels[i as usize]
+    }
+
+    /// The class of a monomer: its label where that is 1 to 15, else 0.
+    pub fn class(&self, i: u32) -> u8
+        requires { i < length self.now.positions }
+        ensures class { result ≡ class_of (label_of self.now i) }
+        ensures limit { result ≤ GREATEST_CLASS }
+    {
+        let label = self.label(i);
+        if label <= u32::from(GREATEST_CLASS) {
+            label as u8
+        } else {
+            0
+        }
+    }
+
+    /// How many bonds a monomer may have by linking, at most 8; 0 where it is never linked.
+    pub fn valence(&self, i: u32) -> u8
+        requires { i < length self.now.positions }
+        ensures valence { result ≡ valence_of self.now i }
+        ensures limit { result ≤ GREATEST_VALENCE }
+    {
+        self.parts.valences[i as usize]
+    }
+
+    /// Whether a monomer is fixed. A fixed monomer never moves.
+    pub fn fixed(&self, i: u32) -> bool
+        requires { i < length self.now.positions }
+        ensures { result ≡ is_fixed self.now i }
+    {
+        self.parts.fixed[i as usize]
     }
 
     /// The greatest absolute coordinate of any monomer, in lattice units.
