@@ -63,12 +63,15 @@ impl Engine for PlainEngine {
     }
 }
 
-/// Whether the step is legal: within the walls, clear of each other monomer, and with a vector of
-/// the set for each bond.
+/// Whether the step is legal: of a monomer that is not fixed, within the walls, clear of each other
+/// monomer, and with a vector of the set for each bond.
 fn is_legal(world: &World, monomer: u32, dir: Dir) -> bool
     requires { monomer < length world.now.positions }
     ensures { result ≡ is_legal world.now monomer dir }
 {
+    if world.fixed(monomer) {
+        return false;
+    }
     let shape = world.shape();
     let target = world.target(monomer, dir);
     is_within_walls(&shape, target)

@@ -31,6 +31,26 @@ fn legal_steps_are_made_and_others_are_not(rt: HostRuntime) -> Result<(), Fail> 
     Ok(())
 }
 
+#[test]
+fn a_fixed_monomer_never_moves(rt: HostRuntime) -> Result<(), Fail> {
+    let shape = Shape {
+        sides: [8, 8, 8],
+        periodic: [true, true, true],
+    };
+    let set = BondSet::usual(rt.alloc())?;
+    let mut builder = WorldBuilder::new(rt.alloc(), shape, set, 2)?;
+    builder.fix(1);
+    assert!(rt; builder.place(P3 { x: 0, y: 0, z: 0 }).is_ok());
+    assert!(rt; builder.place(P3 { x: 4, y: 4, z: 4 }).is_ok());
+    let mut engine = PlainEngine::new(builder.finish());
+    assert!(rt; !engine.attempt(1, Dir::XUp, 0));
+    assert!(rt; !engine.attempt(1, Dir::ZDown, 0));
+    assert!(rt; engine.attempt(0, Dir::XUp, 0));
+    assert_eq!(rt; engine.world().position(0), P3 { x: 1, y: 0, z: 0 });
+    assert_eq!(rt; engine.into_world().position(1), P3 { x: 4, y: 4, z: 4 });
+    Ok(())
+}
+
 // An engine over two bonded monomers at (0, 0, 0) and (2, 0, 0).
 fn paired(rt: &impl Abort, alloc: Global, set: BondSet) -> Result<PlainEngine, AllocError>
     requires set { IsBondSet set }
