@@ -1,13 +1,13 @@
 -- The causes of command lines, before the first frame and once one has begun.
-use Rattle.std.proofs.Common.{◌≡◌, ℕ, Bool, true, false, not, cond, List, Option, Some, Result, Ok, Err, refl, ap}
+use Rattle.std.proofs.Common.{◌≡◌, ℕ, Bool, true, false, not, cond, List, Option, None, Some, Result, Ok, Err, nat_lt, refl, ap, sym, ◌∙◌}
 use Rattle.bfm_base.specs.declared.cause.Cause.{Cause}
-use Rattle.bfm_base.specs.declared.cause.Cause.TheVariants.{BadLine, FrameShort, Misplaced, Unbuilt}
+use Rattle.bfm_base.specs.declared.cause.Cause.TheVariants.{BadLine, FrameShort, Misplaced, McsOrder, Unbuilt}
 use Rattle.bfm_base.specs.declared.limits.TheConstants.{GREATEST_MCS}
 use Rattle.bfm_lexer.specs.Kinds.{is_bare}
 use Rattle.bfm_commands.specs.Forms.{value_of}
-use Rattle.bfm_commands.specs.History.{History, has_begun, given_of, stands}
+use Rattle.bfm_commands.specs.History.{History, has_begun, given_of, stands, mcs_of}
 use Rattle.bfm_commands.specs.Causes.{known_cause, is_cut_short}
-use Rattle.bfm_commands.specs.Reading.{value_fault, list_fault, begin_fault, next_fault, IsHeader, AreFrames}
+use Rattle.bfm_commands.specs.Reading.{value_fault, list_fault, begin_fault, next_fault, is_complete, standing, IsHeader, AreFrames}
 use Rattle.bfm_commands.specs.declared.commands.Known.{Known}
 use Rattle.bfm_commands.specs.declared.commands.Known.TheVariants.{Mcs}
 use Rattle.bfm_commands.specs.declared.role.Role.TheVariants as roles
@@ -51,6 +51,13 @@ module _ (lines : History) (known : Known) (rest : List ℕ) where
   pub known_cause-late_list : has_begun lines ≡ true → known_cause lines known roles.List rest ≡ cond (not (is_bare rest)) (Some BadLine) (behind_frame (is_cut_short lines) Misplaced)
   known_cause-late_list begun = rw begun (ap (cond (not (is_bare rest)) (Some BadLine)) (behind_short _ Misplaced))
 
+  -- a command after which entries change the bonds
+  pub known_cause-early_change : has_begun lines ≡ false → known_cause lines known roles.Change rest ≡ cond (not (is_bare rest)) (Some BadLine) (Some Misplaced)
+  known_cause-early_change none = rw none refl
+
+  pub known_cause-change : has_begun lines ≡ true → known_cause lines known roles.Change rest ≡ cond (not (is_bare rest)) (Some BadLine) (cond (is_cut_short lines) (Some FrameShort) None)
+  known_cause-change begun = rw begun refl
+
   pub known_cause-unbuilt : known_cause lines known roles.Unbuilt rest ≡ behind_frame (is_cut_short lines) Unbuilt
   known_cause-unbuilt = behind_short _ Unbuilt
 
@@ -61,7 +68,7 @@ known_cause-first lines rest header none h =
     elim (value_of-read rest 0 GREATEST_MCS) [
       | ill_formed i r ↦ rw (i, r) refl
       | out_of_range i o r ↦ rw (i, o, r) refl
-      | right v i o r ↦ rw (i, o, r, none, h.settings, h.set, h.pairs) refl
+      | right v i o r ↦ rw (i, o, r, none, h.settings, h.set, h.pairs, h.labels, h.valences, h.fixed) refl
     ]
 
 -- a line that begins a later frame
@@ -73,5 +80,8 @@ known_cause-next lines rest frames f =
       | out_of_range i o r ↦ rw (i, o, r) refl
       | right v i o r ↦
           let number = natural_in-value rest 0 GREATEST_MCS v r in
-          rw (i, o, r, f.begun, number, f.draft, f.mcs) refl
+          rw (i, o, r, f.begun, number) (
+          ap (λ d. cond (not (is_complete d)) (Some FrameShort) (cond (nat_lt v (mcs_of lines)) (Some McsOrder) None)) (sym f.draft)
+          ∙ ap (λ n. cond (not (is_complete (standing frames.lines))) (Some FrameShort) (cond (nat_lt v n) (Some McsOrder) None)) (sym f.mcs)
+          )
     ]

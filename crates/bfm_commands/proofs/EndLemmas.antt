@@ -6,10 +6,10 @@ use Rattle.std.proofs.lemmas.Bool.Decides.{nat_tests}
 use Rattle.bfm_base.specs.declared.cause.Cause.TheVariants.{NoFrame}
 use Rattle.bfm_base.specs.declared.place.P3.{P3}
 use Rattle.bfm_world.specs.Configuration.{Configuration}
-use Rattle.bfm_world.specs.Draft.{Draft, with_positions}
+use Rattle.bfm_world.specs.Draft.{Draft}
 use Rattle.bfm_commands.specs.History.{History, last_whole, frames_of, completes, draft_of, first_positions, mcs_of, skipped_of}
 use Rattle.bfm_commands.specs.Verdict.{history_of, bytes_in, whole_of, whole_or, verdict_of, loaded_of}
-use Rattle.bfm_commands.specs.Reading.{loaded_by, AreNone, AreWhole, AreFrames, Follows, Ends, stop_of}
+use Rattle.bfm_commands.specs.Reading.{loaded_by, at_whole, AreNone, AreWhole, AreFrames, Follows, Ends, stop_of}
 use Rattle.bfm_commands.specs.declared.fault.LineFault.TheVariants as faults
 use Rattle.bfm_commands.specs.declared.loaded.Loaded.{Loaded}
 use Rattle.bfm_commands.specs.declared.frames.Frames.{Frames}
@@ -54,8 +54,8 @@ module _ (progress : Progress) (bytes : List ℕ) (f : Follows progress bytes) (
     Ends-whole None k = Ends-none k.none
     Ends-whole (Some w) k =
         let lines = history_of bytes in
-        let last : (draft_of (last_whole lines)).world ≡ (with_positions frames.lines.builder w.last.items).world =
-        ap (λ (d : Draft). d.world) (k.world ∙ ap (λ d. with_positions d w.last.items) (sym a.draft)) in
+        let last : (draft_of (last_whole lines)).world ≡ (at_whole frames.lines.builder w).world =
+        ap (λ (d : Draft). d.world) (k.world ∙ ap (λ d. at_whole d w) (sym a.draft)) in
         let some_frame : (frames_of lines == 0) ≡ false = not_zero (frames_of lines) k.some in
         verdict-whole
         ∙ (ap (λ b. cond b (Err (record { line = length lines + 1; cause = NoFrame })) (Ok (loaded_of (length bytes) lines))) some_frame

@@ -6,12 +6,11 @@ use Rattle.std.proofs.lemmas.Bool.Decides.{nat_tests}
 use Rattle.bfm_base.specs.declared.place.P3.{P3}
 use Rattle.bfm_base.specs.Place.{extent_of}
 use Rattle.bfm_base.specs.declared.cause.Cause.TheVariants.{OutOfLimit}
-use Rattle.bfm_base.specs.declared.limits.TheConstants.{GREATEST_NUMBER, START_REACH, MOST_MONOMERS}
+use Rattle.bfm_base.specs.declared.limits.TheConstants.{GREATEST_NUMBER, START_REACH, MOST_MONOMERS, GREATEST_CLASS, GREATEST_WEIGHT, GREATEST_THRESHOLD}
 use Rattle.bfm_lexer.specs.Fields.{◌>>=◌, behind_mark, number_field, lone_number, lone_natural, number_before, natural_before}
 use Rattle.bfm_lexer.specs.Cursor.{capped, capped_natural, handed, handed_natural}
 use Rattle.bfm_lexer.proofs.NumberLemmas.{unsigned_abs-capped, capped-within}
 use Rattle.bfm_commands.specs.Forms.{Numbered, value_number, vector_numbers, pair_numbers, single_numbers, span_numbers, range_numbers, string_of, frame_numbers, natural_within, monomer_of, limited_value, value_of, limited_vector, vector_entry, other_monomers, limited_pair, pair_entry, ordered_monomers, limited_monomers, monomers_entry, monomers_numbers, lone_pair, lone_span, valued_range, limited_range, range_entry, contact_numbers, weight_of, contact_of, limited_contact, contact_entry, threshold_entry, limited_frame, frame_line}
-use Rattle.bfm_commands.specs.declared.forms.TheConstants.{GREATEST_CLASS, GREATEST_WEIGHT, GREATEST_THRESHOLD}
 use Rattle.bfm_commands.specs.Capped.{capped_place, capped_vector, capped_pair, capped_numbered, capped_frame}
 
 -- A step of a reading, where what comes after it gives the same of a number and of what is handed on of it.

@@ -3,16 +3,15 @@ use Rattle.std.proofs.Common.{◌≡◌, ◌≢◌, ℕ, ◌+◌, ◌-◌, Bool,
 use Rattle.std.specs.Prelude.{◌==◌}
 use Rattle.bfm_base.specs.declared.place.P3.{P3}
 use Rattle.bfm_world.specs.Draft.{Draft, with_positions, with_bonds}
-use Rattle.bfm_commands.specs.Forms.{frame_line}
+use Rattle.bfm_commands.specs.Forms.{pair_entry, frame_line}
 use Rattle.bfm_commands.specs.Meaning.{Meaning, nothing, command, entry, meaning_of}
-use Rattle.bfm_commands.specs.History.{History, begins, has_begun, header_of, owner_after, owner_of, entry_of, given_in, given_by, given_of, shape_in, count_in, set_of, pairs_of, with_pairs, listed_bonds, line_positions, positions_by, positions_of, time_after, mcs_of, is_first_frame, chain, shown_pairs, draft_of, is_whole, completes, last_whole, frames_of, first_positions}
+use Rattle.bfm_commands.specs.History.{History, begins, has_begun, header_of, owner_after, owner_of, entry_of, given_in, given_by, given_of, shape_in, count_in, set_of, pairs_of, labels_of, valences_of, fixed_of, said_of_each, fixed_of_each, with_pairs, listed_bonds, line_positions, positions_by, positions_of, time_after, mcs_of, is_first_frame, chain, shown_by, pair_in, with_added, with_removed, bonds_after, bonds_of, draft_of, is_whole, completes, last_whole, frames_of, first_positions}
 use Rattle.bfm_commands.specs.Placing.{with_line}
-use Rattle.bfm_commands.specs.Reading.{is_complete, taken_line, owns_frame_lines}
+use Rattle.bfm_commands.specs.Reading.{is_complete, taken_line, follows_header, owns_changes}
 use Rattle.bfm_commands.specs.declared.commands.Known.{Known}
-use Rattle.bfm_commands.specs.declared.commands.Known.TheVariants.{Mcs}
+use Rattle.bfm_commands.specs.declared.commands.Known.TheVariants.{Mcs, AddBonds, RemoveBonds}
 use Rattle.bfm_commands.specs.declared.owner.Owner.{Owner}
 use Rattle.bfm_commands.specs.declared.owner.Owner.TheVariants.{Nobody, Unknown, Command}
-use Rattle.bfm_commands.proofs.PairLemmas.{with_pairs-append}
 
 or_false : (a b : Bool) → (a || b) ≡ false → (a ≡ false) × (b ≡ false)
 or_false true b e = absurd (cc)
@@ -47,12 +46,9 @@ is_first_frame-none (line ∷ lines) e =
     let parts = begins-none line lines e in
     ap (λ b. cond b (not (has_begun lines)) (is_first_frame lines)) parts.0 ∙ is_first_frame-none lines parts.1
 
-pub shown_pairs-none : (lines : History) → has_begun lines ≡ false → shown_pairs lines ≡ []
-shown_pairs-none [] e = refl
-shown_pairs-none (line ∷ lines) e =
-    let none = (begins-none line lines e).1 in
-    ap (λ b. cond b (shown_pairs lines ++ chain (length (positions_of lines)) (length (positions_by lines (meaning_of line)) - 1)) (shown_pairs lines)) (is_first_frame-none lines none)
-    ∙ shown_pairs-none lines none
+-- the line that begins the first frame leaves the bonds that are listed
+pub bonds_of-first : (listed : List (List ℕ)) (line : List ℕ) (lines : History) → has_begun lines ≡ false → bonds_of listed (line ∷ lines) ≡ listed
+bonds_of-first listed line lines none = ap (λ b. cond b (bonds_after lines (meaning_of line) (bonds_of listed lines)) listed) none
 
 completes-none : (line : List ℕ) (lines : History) → has_begun (line ∷ lines) ≡ false → completes line lines ≡ false
 completes-none line lines e =
@@ -85,54 +81,66 @@ header_of-begun line lines e = ap (λ b. cond b (header_of lines) (line ∷ line
 pub has_begun-more : (line : List ℕ) (lines : History) → has_begun lines ≡ true → has_begun (line ∷ lines) ≡ true
 has_begun-more line lines e = or_true (begins (meaning_of line)) (has_begun lines) e
 
--- a draft by its header, its positions and the pairs that its lines show
-abbrev draft_from : History → List P3 → List (ℕ × ℕ) → Draft
-draft_from header positions shown = record {
+-- the bonds that a header lists
+abbrev pub bonds_in : History → List (List ℕ)
+bonds_in header = listed_bonds (count_in (given_of header)) (pairs_of header)
+
+-- a draft by its header, its positions and its bonds
+abbrev pub draft_from : History → List P3 → List (List ℕ) → Draft
+draft_from header positions bonds = record {
   world = record {
     shape = shape_in (given_of header);
     set = set_of header;
     positions = positions;
-    bonds = with_pairs (listed_bonds (count_in (given_of header)) (pairs_of header)) shown;
+    bonds = bonds;
+    labels = said_of_each (labels_of header) (count_in (given_of header));
+    valences = said_of_each (valences_of header) (count_in (given_of header));
+    fixed = fixed_of_each (fixed_of header) (count_in (given_of header));
   };
   count = count_in (given_of header);
 }
 
-module _ (line : List ℕ) (lines : History) (m : Meaning) (e : meaning_of line ≡ m) where
-  more_shown : List P3 → List (ℕ × ℕ)
-  more_shown ps = cond (is_first_frame lines) (shown_pairs lines ++ chain (length (positions_of lines)) (length ps - 1)) (shown_pairs lines)
+-- the line that begins the first frame
+pub draft_of-first : (line rest : List ℕ) (lines : History) → meaning_of line ≡ command (Some Mcs) rest → has_begun lines ≡ false → draft_of (line ∷ lines) ≡ draft_from lines [] (bonds_in lines)
+draft_of-first line rest lines e none =
+    let begun : has_begun (line ∷ lines) ≡ true = has_begun-line line lines (command (Some Mcs) rest) e in
+    let first : header_of (line ∷ lines) ≡ lines = ap (λ b. cond b (header_of lines) (line ∷ lines)) begun ∙ header_of-none lines none in
+    ap (λ h. draft_from h (positions_of (line ∷ lines)) (bonds_of (bonds_in h) (line ∷ lines))) first
+    ∙ (ap (λ x. draft_from lines (cond (begins x) [] (positions_of lines ++ positions_by lines (meaning_of line))) (bonds_of (bonds_in lines) (line ∷ lines))) e
+    ∙ ap (draft_from lines []) (bonds_of-first (bonds_in lines) line lines none))
 
+abbrev present_bonds : History → List (List ℕ)
+present_bonds lines = bonds_of (bonds_in (header_of lines)) lines
+
+module _ (line : List ℕ) (lines : History) (m : Meaning) (e : meaning_of line ≡ m) where
   draft_of-line : has_begun lines ≡ true
-      → draft_of (line ∷ lines) ≡ draft_from (header_of lines) (cond (begins m) [] (positions_of lines ++ positions_by lines m)) (more_shown (positions_by lines m))
-  unfolding more_shown
+      → draft_of (line ∷ lines) ≡ draft_from (header_of lines) (cond (begins m) [] (positions_of lines ++ positions_by lines m)) (bonds_after lines m (present_bonds lines))
   draft_of-line begun =
-      ap (λ h. draft_from h (positions_of (line ∷ lines)) (shown_pairs (line ∷ lines))) (header_of-begun line lines begun)
-      ∙ ap (λ x. draft_from (header_of lines) (cond (begins x) [] (positions_of lines ++ positions_by lines x)) (more_shown (positions_by lines x))) e
+      ap (λ h. draft_from h (positions_of (line ∷ lines)) (bonds_of (bonds_in h) (line ∷ lines))) (header_of-begun line lines begun)
+      ∙ (ap (λ b. draft_from (header_of lines) (positions_of (line ∷ lines)) (cond b (bonds_after lines (meaning_of line) (present_bonds lines)) (bonds_in (header_of lines)))) begun
+      ∙ ap (λ x. draft_from (header_of lines) (cond (begins x) [] (positions_of lines ++ positions_by lines x)) (bonds_after lines x (present_bonds lines))) e)
 
   -- a line that is no frame line gives no position and completes nothing
   module _ (no_line : entry_of Mcs (owner_of lines) m ≡ None) where
     positions_by-none : positions_by lines m ≡ []
     positions_by-none = ap (λ t. line_positions (set_of (header_of lines)) (given_in frame_line t)) no_line
 
-    shown_same : more_shown [] ≡ shown_pairs lines
-    unfolding more_shown
-    shown_same = by_first (is_first_frame lines)
+    shown_by-none : shown_by lines m ≡ []
+    shown_by-none = ap (λ ps. cond (is_first_frame lines) (chain (length (positions_of lines)) (length ps - 1)) []) positions_by-none ∙ by_first (is_first_frame lines)
       where
-        by_first : (b : Bool) → cond b (shown_pairs lines ++ []) (shown_pairs lines) ≡ shown_pairs lines
-        by_first true = append-nil (shown_pairs lines)
+        by_first : (b : Bool) → cond b (chain (length (positions_of lines)) (0 - 1)) [] ≡ []
+        by_first true = refl
         by_first false = refl
 
-    pub draft_of-same : has_begun lines ≡ true → begins m ≡ false → draft_of (line ∷ lines) ≡ draft_of lines
-    draft_of-same begun b =
+    -- only the bonds may change
+    draft_of-bonds : has_begun lines ≡ true → begins m ≡ false
+        → draft_of (line ∷ lines) ≡ with_bonds (draft_of lines) (with_removed (with_added (present_bonds lines) (pair_in AddBonds lines m)) (pair_in RemoveBonds lines m))
+    draft_of-bonds begun b =
         draft_of-line begun
-        ∙ (ap (λ x. draft_from (header_of lines) (cond x [] (positions_of lines ++ positions_by lines m)) (more_shown (positions_by lines m))) b
-        ∙ (ap (λ ps. draft_from (header_of lines) (positions_of lines ++ ps) (more_shown ps)) positions_by-none
-        ∙ (ap (λ ps. draft_from (header_of lines) ps (more_shown [])) (append-nil (positions_of lines)) ∙ ap (draft_from (header_of lines) (positions_of lines)) shown_same)))
-
-    pub draft_of-next : has_begun lines ≡ true → begins m ≡ true → draft_of (line ∷ lines) ≡ with_positions (draft_of lines) []
-    draft_of-next begun b =
-        draft_of-line begun
-        ∙ (ap (λ x. draft_from (header_of lines) (cond x [] (positions_of lines ++ positions_by lines m)) (more_shown (positions_by lines m))) b
-        ∙ (ap (λ ps. draft_from (header_of lines) [] (more_shown ps)) positions_by-none ∙ ap (draft_from (header_of lines) []) shown_same))
+        ∙ (ap (λ x. draft_from (header_of lines) (cond x [] (positions_of lines ++ positions_by lines m)) (bonds_after lines m (present_bonds lines))) b
+        ∙ (ap (λ ps. draft_from (header_of lines) (positions_of lines ++ ps) (bonds_after lines m (present_bonds lines))) positions_by-none
+        ∙ (ap (λ ps. draft_from (header_of lines) ps (bonds_after lines m (present_bonds lines))) (append-nil (positions_of lines))
+        ∙ ap (λ shown. draft_from (header_of lines) (positions_of lines) (with_removed (with_added (with_pairs (present_bonds lines) shown) (pair_in AddBonds lines m)) (pair_in RemoveBonds lines m))) shown_by-none)))
 
     pub completes-other : completes line lines ≡ false
     completes-other = ap (λ x. is_some (entry_of Mcs (owner_of lines) x) && is_whole (line ∷ lines)) e ∙ ap (λ t. is_some t && is_whole (line ∷ lines)) no_line
@@ -147,6 +155,27 @@ module _ (line : List ℕ) (lines : History) (m : Meaning) (e : meaning_of line 
     first_positions-other =
         ap (λ b. cond ((frames_of lines == 0) && b) (positions_of (line ∷ lines)) (first_positions lines)) completes-other
         ∙ ap (λ b. cond b (positions_of (line ∷ lines)) (first_positions lines)) (and_false (frames_of lines == 0))
+
+  -- a line that is no entry of any command leaves the bonds
+  module _ (none : (known : Known) → entry_of known (owner_of lines) m ≡ None) where
+    bonds_after-none : bonds_after lines m (present_bonds lines) ≡ present_bonds lines
+    bonds_after-none =
+        ap (λ shown. with_removed (with_added (with_pairs (present_bonds lines) shown) (pair_in AddBonds lines m)) (pair_in RemoveBonds lines m)) (shown_by-none (none Mcs))
+        ∙ (ap (λ t. with_removed (with_added (present_bonds lines) (given_in pair_entry t)) (pair_in RemoveBonds lines m)) (none AddBonds)
+        ∙ ap (λ t. with_removed (present_bonds lines) (given_in pair_entry t)) (none RemoveBonds))
+
+    pub draft_of-same : has_begun lines ≡ true → begins m ≡ false → draft_of (line ∷ lines) ≡ draft_of lines
+    draft_of-same begun b =
+        draft_of-line begun
+        ∙ (ap (λ x. draft_from (header_of lines) (cond x [] (positions_of lines ++ positions_by lines m)) (bonds_after lines m (present_bonds lines))) b
+        ∙ (ap (λ ps. draft_from (header_of lines) (positions_of lines ++ ps) (bonds_after lines m (present_bonds lines))) (positions_by-none (none Mcs))
+        ∙ (ap (λ ps. draft_from (header_of lines) ps (bonds_after lines m (present_bonds lines))) (append-nil (positions_of lines)) ∙ ap (draft_from (header_of lines) (positions_of lines)) bonds_after-none)))
+
+    pub draft_of-next : has_begun lines ≡ true → begins m ≡ true → draft_of (line ∷ lines) ≡ with_positions (draft_of lines) []
+    draft_of-next begun b =
+        draft_of-line begun
+        ∙ (ap (λ x. draft_from (header_of lines) (cond x [] (positions_of lines ++ positions_by lines m)) (bonds_after lines m (present_bonds lines))) b
+        ∙ ap (draft_from (header_of lines) []) bonds_after-none)
 
   pub is_first_frame-same : begins m ≡ false → is_first_frame (line ∷ lines) ≡ is_first_frame lines
   is_first_frame-same b = ap (λ x. cond (begins x) (not (has_begun lines)) (is_first_frame lines)) e ∙ ap (λ x. cond x (not (has_begun lines)) (is_first_frame lines)) b
@@ -175,20 +204,23 @@ module _ (line : List ℕ) (lines : History) (text : List ℕ) (e : meaning_of l
   positions_by-line : positions_by lines (entry text) ≡ line_ps
   positions_by-line = ap (λ o. line_positions (set_of (header_of lines)) (given_in frame_line (entry_of Mcs o (entry text)))) owned
 
+  -- the bonds with those of a line that gives these positions
+  abbrev bonds_with : List P3 → Bool → Owner → List (List ℕ)
+  bonds_with ps b owner =
+      with_removed (with_added (with_pairs (present_bonds lines) (cond b (chain (length (positions_of lines)) (length ps - 1)) [])) (given_in pair_entry (entry_of AddBonds owner (entry text))))
+      (given_in pair_entry (entry_of RemoveBonds owner (entry text)))
+
   pub draft_of-taken : (first : Bool) → is_first_frame lines ≡ first → draft_of (line ∷ lines) ≡ taken_line first (draft_of lines) text
-  unfolding more_shown
   draft_of-taken first f =
       draft_of-line line lines (entry text) e begun
-      ∙ (ap (λ ps. draft_from (header_of lines) (positions_of lines ++ ps) (cond (is_first_frame lines) (shown_pairs lines ++ chain (length (positions_of lines)) (length ps - 1)) (shown_pairs lines))) positions_by-line
-      ∙ (ap (λ b. draft_from (header_of lines) (positions_of lines ++ line_ps) (cond b (shown_pairs lines ++ chain (length (positions_of lines)) (length line_ps - 1)) (shown_pairs lines))) f
-      ∙ by_first first))
+      ∙ (ap (λ ps. draft_from (header_of lines) (positions_of lines ++ ps) (bonds_with ps (is_first_frame lines) (owner_of lines))) positions_by-line
+      ∙ (ap (λ o. draft_from (header_of lines) (positions_of lines ++ line_ps) (bonds_with line_ps (is_first_frame lines) o)) owned
+      ∙ (ap (λ b. draft_from (header_of lines) (positions_of lines ++ line_ps) (bonds_with line_ps b (Command Mcs))) f
+      ∙ by_first first)))
     where
-      by_first : (b : Bool) → draft_from (header_of lines) (positions_of lines ++ line_ps) (cond b (shown_pairs lines ++ chain (length (positions_of lines)) (length line_ps - 1)) (shown_pairs lines))
+      by_first : (b : Bool) → draft_from (header_of lines) (positions_of lines ++ line_ps) (with_pairs (present_bonds lines) (cond b (chain (length (positions_of lines)) (length line_ps - 1)) []))
           ≡ taken_line b (draft_of lines) text
-      by_first true =
-          ap (λ bonds. with_bonds (with_positions (draft_of lines) (positions_of lines ++ line_ps)) bonds)
-          (with_pairs-append (listed_bonds (count_in (given_of (header_of lines))) (pairs_of (header_of lines))) (shown_pairs lines) (chain (length (positions_of lines)) (length line_ps - 1)))
-          ∙ sym (with_line-any (draft_of lines) line_ps)
+      by_first true = sym (with_line-any (draft_of lines) line_ps)
       by_first false = refl
 
   pub completes-line : completes line lines ≡ is_complete (draft_of (line ∷ lines))
@@ -196,6 +228,18 @@ module _ (line : List ℕ) (lines : History) (text : List ℕ) (e : meaning_of l
       ap (λ x. is_some (entry_of Mcs (owner_of lines) x) && is_whole (line ∷ lines)) e
       ∙ (ap (λ o. is_some (entry_of Mcs o (entry text)) && is_whole (line ∷ lines)) owned
       ∙ ap (λ b. b && is_complete (draft_of (line ∷ lines))) (has_begun-more line lines begun))
+
+-- ---- an entry that changes a bond
+module _ (line : List ℕ) (lines : History) (text : List ℕ) (e : meaning_of line ≡ entry text) (begun : has_begun lines ≡ true) where
+  pub draft_of-added : owner_of lines ≡ Command AddBonds → draft_of (line ∷ lines) ≡ with_bonds (draft_of lines) (with_added (draft_of lines).world.bonds (given_in pair_entry (Some text)))
+  draft_of-added owned =
+      draft_of-bonds line lines (entry text) e (ap (λ o. entry_of Mcs o (entry text)) owned) begun refl
+      ∙ ap (λ o. with_bonds (draft_of lines) (with_removed (with_added (present_bonds lines) (given_in pair_entry (entry_of AddBonds o (entry text)))) (given_in pair_entry (entry_of RemoveBonds o (entry text))))) owned
+
+  pub draft_of-removed : owner_of lines ≡ Command RemoveBonds → draft_of (line ∷ lines) ≡ with_bonds (draft_of lines) (with_removed (draft_of lines).world.bonds (given_in pair_entry (Some text)))
+  draft_of-removed owned =
+      draft_of-bonds line lines (entry text) e (ap (λ o. entry_of Mcs o (entry text)) owned) begun refl
+      ∙ ap (λ o. with_bonds (draft_of lines) (with_removed (with_added (present_bonds lines) (given_in pair_entry (entry_of AddBonds o (entry text)))) (given_in pair_entry (entry_of RemoveBonds o (entry text))))) owned
 
 -- ---- lines that add nothing
 pub data IsIdle (owner : Owner) (m : Meaning) : Type 0 where
@@ -221,7 +265,12 @@ IsIdle-adds owner m (blank e) = rw e (refl, refl, no_entry owner, λ mcs. refl)
 IsIdle-adds owner m (skipped rest e) = rw e (refl, refl, λ known. no_entry_command owner known rest, λ mcs. refl)
 IsIdle-adds owner m (unowned text o e) = rw e (refl, refl, λ known. ap (λ x. entry_of known x (entry text)) o, λ mcs. refl)
 
-pub IsIdle-owner : (owner : Owner) (m : Meaning) → IsIdle owner m → owns_frame_lines owner ≡ true → owns_frame_lines (owner_after owner m) ≡ true
-IsIdle-owner owner m (blank e) h = ap (λ x. owns_frame_lines (owner_after owner x)) e ∙ h
-IsIdle-owner owner m (skipped rest e) h = ap (λ x. owns_frame_lines (owner_after owner x)) e
-IsIdle-owner owner m (unowned text o e) h = ap (λ x. owns_frame_lines (owner_after owner x)) e ∙ h
+pub IsIdle-owner : (owner : Owner) (m : Meaning) → IsIdle owner m → follows_header owner ≡ true → follows_header (owner_after owner m) ≡ true
+IsIdle-owner owner m (blank e) h = ap (λ x. follows_header (owner_after owner x)) e ∙ h
+IsIdle-owner owner m (skipped rest e) h = ap (λ x. follows_header (owner_after owner x)) e
+IsIdle-owner owner m (unowned text o e) h = ap (λ x. follows_header (owner_after owner x)) e ∙ h
+
+pub IsIdle-between : (owner : Owner) (m : Meaning) → IsIdle owner m → owns_changes (owner_after owner m) ≡ true → owns_changes owner ≡ true
+IsIdle-between owner m (blank e) h = sym (ap (λ x. owns_changes (owner_after owner x)) e) ∙ h
+IsIdle-between owner m (skipped rest e) h = absurd (let f = sym (ap (λ x. owns_changes (owner_after owner x)) e) ∙ h in cc)
+IsIdle-between owner m (unowned text o e) h = sym (ap (λ x. owns_changes (owner_after owner x)) e) ∙ h

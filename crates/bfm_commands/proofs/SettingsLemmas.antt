@@ -9,5 +9,6 @@ pub IsGivenAs-right : (role : Role) (value : Option ℕ) → IsRightValue role v
 IsGivenAs-right (roles.Value smallest greatest) (Some n) right = (refl, right.0, right.1)
 IsGivenAs-right (roles.Value smallest greatest) None right = absurd right
 IsGivenAs-right roles.List value right = tt
+IsGivenAs-right roles.Change value right = tt
 IsGivenAs-right roles.Frame value right = tt
 IsGivenAs-right roles.Unbuilt value right = tt

@@ -7,13 +7,13 @@ use Rattle.bfm_base.specs.declared.place.P3.{P3}
 use Rattle.bfm_base.specs.declared.cause.Cause.{Cause}
 use Rattle.bfm_base.specs.declared.cause.Cause.TheVariants.{UnknownId, FrameLong}
 use Rattle.bond_set.specs.BondSet.{vector_of}
-use Rattle.bfm_world.specs.Draft.{Draft, with_positions}
+use Rattle.bfm_world.specs.Draft.{Draft, with_positions, with_bonds}
 use Rattle.bfm_commands.specs.Forms.{frame_line}
 use Rattle.bfm_commands.specs.Meaning.{entry, meaning_of}
 use Rattle.bfm_commands.specs.History.{History, owner_of, positions_of, mcs_of, is_first_frame, draft_of, completes, last_whole, frames_of, first_positions}
 use Rattle.bfm_commands.specs.Verdict.{bytes_in}
 use Rattle.bfm_commands.specs.Causes.{frame_cause, string_cause, entered}
-use Rattle.bfm_commands.specs.Reading.{is_complete, taken_line, owns_frame_lines, KeepsFrame, IsKeptWith, AreWhole, AreNone, AreFrames}
+use Rattle.bfm_commands.specs.Reading.{is_complete, standing, at_whole, taken_line, follows_header, owns_changes, KeepsFrame, TakesLine, AreWhole, AreNone, AreFrames}
 use Rattle.bfm_commands.specs.declared.commands.Known.TheVariants.{Mcs}
 use Rattle.bfm_commands.specs.declared.owner.Owner.TheVariants.{Command}
 use Rattle.bfm_commands.specs.declared.frames.Frames.{Frames}
@@ -70,21 +70,20 @@ frame_cause-kept (Some w) lines text k = by_first (is_first_frame lines) refl
     by_first false e = refl
 
 module _ (old new : Frames) (lines : History) (line text : List ℕ) (bytes : ℕ) (e : meaning_of line ≡ entry text) (f : AreFrames old lines) (owned : owner_of lines ≡ Command Mcs)
-    (right : frame_cause (is_none old.whole) old.lines.builder text ≡ None) (builder : new.lines.builder ≡ taken_line (is_none old.whole) old.lines.builder text) (mcs : new.mcs ≡ old.mcs)
-    (kept : IsKeptWith bytes new old.whole new.whole) (count : bytes_in (line ∷ lines) ≡ bytes) where
+    (right : frame_cause (is_none old.whole) (standing old.lines) text ≡ None) (taken : TakesLine text bytes old new) (count : bytes_in (line ∷ lines) ≡ bytes) where
   abbrev more : History
   more = line ∷ lines
 
   first : is_first_frame lines ≡ is_none old.whole
   first = is_first_frame-kept old.whole lines text f.whole (ap (λ d. frame_cause (is_none old.whole) d text) (sym f.draft) ∙ right)
 
-  draft : new.lines.builder ≡ draft_of more
-  draft = builder ∙ (ap (λ d. taken_line (is_none old.whole) d text) f.draft ∙ sym (draft_of-taken line lines text e f.begun owned (is_none old.whole) first))
+  draft : standing new.lines ≡ draft_of more
+  draft = taken.frame ∙ (ap (λ d. taken_line (is_none old.whole) d text) f.draft ∙ sym (draft_of-taken line lines text e f.begun owned (is_none old.whole) first))
 
-  completes-new : (b : Bool) → is_complete new.lines.builder ≡ b → completes line lines ≡ b
+  completes-new : (b : Bool) → is_complete (standing new.lines) ≡ b → completes line lines ≡ b
   completes-new b c = completes-line line lines text e f.begun owned ∙ (ap is_complete (sym draft) ∙ c)
 
-  module _ (part : is_complete new.lines.builder ≡ false) where
+  module _ (part : is_complete (standing new.lines) ≡ false) where
     no_more : completes line lines ≡ false
     no_more = completes-new false part
 
@@ -109,11 +108,11 @@ module _ (old new : Frames) (lines : History) (line text : List ℕ) (bytes : �
       first = k.first ∙ sym first_same;
       mcs = k.mcs ∙ ap mcs_of (sym last_same);
       kept = k.kept ∙ ap bytes_in (sym last_same);
-      world = ap draft_of last_same ∙ (k.world ∙ ap (λ d. with_positions d w.last.items) (sym (draft_of-taken line lines text e f.begun owned false is)));
+      world = ap draft_of last_same ∙ (k.world ∙ ap (λ d. at_whole d w) (sym (draft_of-taken line lines text e f.begun owned false is)));
       later = λ h. let other = sym h ∙ (is_first_frame-same line lines (entry text) e refl ∙ is) in absurd (cc);
     }
 
-  module _ (whole : is_complete new.lines.builder ≡ true) where
+  module _ (whole : is_complete (standing new.lines) ≡ true) where
     one_more : completes line lines ≡ true
     one_more = completes-new true whole
 
@@ -126,14 +125,17 @@ module _ (old new : Frames) (lines : History) (line text : List ℕ) (bytes : �
     first_more : first_positions more ≡ cond ((frames_of lines == 0) && true) (positions_of more) (first_positions lines)
     first_more = ap (λ b. cond ((frames_of lines == 0) && b) (positions_of more) (first_positions lines)) one_more
 
-    here : (w : Whole) (n : ℕ) → w.frames ≡ n + 1 → frames_of lines ≡ n → w.first.items ≡ first_positions more → w.last.items ≡ new.lines.builder.world.positions → w.mcs ≡ new.mcs → w.kept ≡ bytes → AreWhole w more
-    here w n frames before first last time size = record {
+    here : (w : Whole) (n : ℕ) → w.frames ≡ n + 1 → frames_of lines ≡ n → w.first.items ≡ first_positions more → w.last.items ≡ new.lines.positions.items → w.mcs ≡ new.mcs → w.kept ≡ bytes
+        → w.bonds ≡ new.lines.builder.world.bonds → AreWhole w more
+    here w n frames before first last time size bonds = record {
       frames = frames ∙ (ap (λ k. k + 1) (sym before) ∙ sym frames_more);
       some = λ z. absurd (omega (arith, frames_more));
       first = first;
-      mcs = time ∙ (mcs ∙ (f.mcs ∙ (sym (mcs_of-line line lines (entry text) e) ∙ ap mcs_of (sym last_here))));
+      mcs = time ∙ (taken.mcs ∙ (f.mcs ∙ (sym (mcs_of-line line lines (entry text) e) ∙ ap mcs_of (sym last_here))));
       kept = size ∙ (sym count ∙ ap bytes_in (sym last_here));
-      world = ap draft_of last_here ∙ ap (with_positions (draft_of more)) (sym (last ∙ ap (λ (d : Draft). d.world.positions) draft));
+      world = ap draft_of last_here
+          ∙ (ap (λ ps. with_bonds (with_positions (draft_of more) ps) (draft_of more).world.bonds) (sym (last ∙ ap (λ (d : Draft). d.world.positions) draft))
+          ∙ ap (with_bonds (with_positions (draft_of more) w.last.items)) (sym (bonds ∙ ap (λ (d : Draft). d.world.bonds) draft)));
       later = λ h. complete-count _ _ (ap is_complete (sym draft) ∙ whole);
     }
 
@@ -142,21 +144,22 @@ module _ (old new : Frames) (lines : History) (line text : List ℕ) (bytes : �
     whole_kept None (Some w) k h =
         here w 0 h.4 k.none
         (h.0 ∙ (ap (λ (d : Draft). d.world.positions) draft ∙ sym (first_more ∙ ap (λ n. cond ((n == 0) && true) (positions_of more) (first_positions lines)) k.none)))
-        h.1 h.2 h.3
+        h.1 h.2 h.3 h.5
     whole_kept (Some o) (Some w) k h =
         here w o.frames h.4 (sym k.frames)
         (h.0 ∙ (k.first ∙ sym (first_more ∙ ap (λ b. cond (b && true) (positions_of more) (first_positions lines)) (complete-not (frames_of lines) k.some))))
-        h.1 h.2 h.3
+        h.1 h.2 h.3 h.5
 
   pub AreFrames-taken : AreFrames new (line ∷ lines)
   AreFrames-taken = record {
     begun = has_begun-more line lines f.begun;
     draft = draft;
-    mcs = mcs ∙ (f.mcs ∙ sym (mcs_of-line line lines (entry text) e));
-    owner = ap owns_frame_lines (owner_of-line line lines (entry text) e) ∙ f.owner;
-    whole = by_complete (is_complete new.lines.builder) refl;
+    mcs = taken.mcs ∙ (f.mcs ∙ sym (mcs_of-line line lines (entry text) e));
+    owner = ap follows_header (owner_of-line line lines (entry text) e) ∙ f.owner;
+    between = λ o. absurd (let no_change = sym (ap owns_changes (owner_of-line line lines (entry text) e ∙ owned)) ∙ o in cc);
+    whole = by_complete (is_complete (standing new.lines)) refl;
   }
     where
-      by_complete : (b : Bool) → is_complete new.lines.builder ≡ b → Kept new.whole more
-      by_complete true c = whole_kept c old.whole new.whole f.whole (kept.whole c)
-      by_complete false c = subst (λ w. Kept w more) (sym (kept.part c)) (part_whole c old.whole first f.whole)
+      by_complete : (b : Bool) → is_complete (standing new.lines) ≡ b → Kept new.whole more
+      by_complete true c = whole_kept c old.whole new.whole f.whole (taken.whole.whole c)
+      by_complete false c = subst (λ w. Kept w more) (sym (taken.whole.part c)) (part_whole c old.whole first f.whole)

@@ -1,27 +1,28 @@
 -- Why a line is wrong after the finished lines before it, which come newest first: the least-numbered cause.
-use Rattle.std.specs.Prelude.{ℕ, ◌+◌, ◌*◌, Bool, true, false, not, ◌&&◌, ◌||◌, nat_lt, ℤ, List, [], ◌∷◌, ◌++◌, length, Option, None, Some, is_some, is_none, Result, Ok, Err, if◌then◌else◌}
+use Rattle.std.specs.Prelude.{ℕ, ◌+◌, ◌*◌, Bool, true, false, not, ◌&&◌, ◌||◌, nat_lt, nat_le, ℤ, List, [], ◌∷◌, ◌++◌, length, Option, None, Some, is_some, is_none, Result, Ok, Err, if◌then◌else◌}
 use Rattle.std.specs.List.{list_any, list_all}
-use Rattle.bfm_base.specs.declared.limits.TheConstants.{MOST_SITES, MOST_BONDS, GREATEST_MCS}
+use Rattle.bfm_base.specs.declared.limits.TheConstants.{MOST_SITES, MOST_BONDS, GREATEST_MCS, GREATEST_LABEL, GREATEST_VALENCE}
 use Rattle.bfm_base.specs.declared.place.P3.{P3}
 use Rattle.bfm_base.specs.declared.cause.Cause.{Cause}
 use Rattle.bfm_base.specs.declared.cause.Cause.TheVariants.{BadLine, OutOfLimit, Repeated, NotSymmetric, UnknownId, FrameLong, FrameShort, Missing, Misplaced, McsOrder, Outside, Overlap, BadMonomer, BadBond, TooManyBonds, BondUnknown, Unbuilt}
 use Rattle.bond_set.specs.BondSet.{refusal_of, vector_of, first_unpaired}
-use Rattle.bfm_world.specs.Bonds.{neighbours_of, are_bonded}
+use Rattle.bfm_world.specs.Bonds.{neighbours_of, are_bonded, is_full}
 use Rattle.bfm_geom.specs.Walls.{is_within_walls}
 use Rattle.bfm_world.specs.Configuration.{Configuration, is_clear, keeps_bonds}
 use Rattle.bfm_world.specs.Draft.{Draft}
 use Rattle.bfm_lexer.specs.Lines.{is_long}
 use Rattle.bfm_lexer.specs.Kinds.{is_bare}
-use Rattle.bfm_commands.specs.Forms.{value_number, natural_within, vector_entry, pair_entry, frame_line}
+use Rattle.bfm_commands.specs.Forms.{value_number, natural_within, vector_entry, pair_entry, range_entry, monomers_entry, frame_line}
 use Rattle.bfm_commands.specs.Meaning.{Meaning, nothing, command, entry, meaning_of, role_of}
-use Rattle.bfm_commands.specs.History.{History, has_begun, owner_of, natural_in, given_of, stands, value_in, count_in, set_of, pairs_of, with_pairs, listed_bonds, string_positions, mcs_of, is_first_frame, is_whole, draft_of, chain}
+use Rattle.bfm_commands.specs.History.{History, has_begun, owner_of, natural_in, given_of, stands, value_in, count_in, set_of, pairs_of, labels_of, valences_of, fixed_of, with_pairs, listed_bonds, string_positions, mcs_of, is_first_frame, is_whole, draft_of, chain}
 use Rattle.bfm_commands.specs.declared.commands.Known.{Known}
-use Rattle.bfm_commands.specs.declared.commands.Known.TheVariants.{NumberOfMonomers, BoxX, BoxY, BoxZ, PeriodicX, PeriodicY, PeriodicZ, SetOfBondVectors, Bonds, Mcs}
+use Rattle.bfm_commands.specs.declared.commands.Known.TheVariants.{NumberOfMonomers, BoxX, BoxY, BoxZ, PeriodicX, PeriodicY, PeriodicZ, SetOfBondVectors, Bonds, Attributes, Valence, Fixed, Mcs, AddBonds, RemoveBonds}
 use Rattle.bfm_commands.specs.declared.role.Role.{Role}
 use Rattle.bfm_commands.specs.declared.role.Role.TheVariants as roles
 use Rattle.bfm_commands.specs.declared.owner.Owner.{Owner}
 use Rattle.bfm_commands.specs.declared.owner.Owner.TheVariants as owners
 use Rattle.bfm_commands.specs.declared.settings.Given.{Given}
+use Rattle.bfm_commands.specs.declared.forms.Range.{Range}
 
 -- the first of the causes that applies, where they stand in the order of their numbers
 abbrev pub least : List (Cause × Bool) → Option Cause
@@ -35,6 +36,7 @@ abbrev pub is_ill_formed : Role → List ℕ → Bool
 is_ill_formed (roles.Value smallest greatest) rest = is_none (value_number rest)
 is_ill_formed roles.Frame rest = is_none (value_number rest)
 is_ill_formed roles.List rest = not (is_bare rest)
+is_ill_formed roles.Change rest = not (is_bare rest)
 is_ill_formed roles.Unbuilt rest = false
 
 -- there is a number, and it is not from the one to the other
@@ -52,6 +54,10 @@ abbrev pub is_header_command : Role → Bool
 is_header_command (roles.Value smallest greatest) = true
 is_header_command roles.List = true
 is_header_command role = false
+
+abbrev pub changes_bonds : Role → Bool
+changes_bonds roles.Change = true
+changes_bonds role = false
 
 abbrev pub begins_frame : Role → Bool
 begins_frame roles.Frame = true
@@ -88,6 +94,19 @@ is_box_too_large given = nat_lt MOST_SITES (product (value_in BoxX given) (value
 abbrev pub is_beyond : ℕ → ℕ × ℕ → Bool
 is_beyond count pair = not (nat_lt pair.0 count && nat_lt pair.1 count)
 
+-- a range ends with a monomer that is not there
+abbrev pub some_range_beyond : ℕ → List (Range × ℕ) → Bool
+some_range_beyond count said = list_any (λ e. nat_le count e.0.last) said
+
+abbrev pub some_fixed_beyond : ℕ → List Range → Bool
+some_fixed_beyond count ranges = list_any (λ range. nat_le count range.last) ranges
+
+-- an entry of the header names a monomer that is not there
+abbrev pub names_beyond : ℕ → History → Bool
+names_beyond count before =
+    list_any (is_beyond count) (pairs_of before)
+    || (some_range_beyond count (labels_of before) || (some_range_beyond count (valences_of before) || some_fixed_beyond count (fixed_of before)))
+
 -- some monomer has more bonds than it may have
 abbrev pub is_overfull : List (List ℕ) → Bool
 is_overfull bonds = list_any (λ row. nat_lt MOST_BONDS (length row)) bonds
@@ -112,9 +131,9 @@ known_cause before known role rest =
     ∷ (NotSymmetric, ends_header role before && is_some (first_unpaired (set_of before)))
     ∷ (FrameShort, is_cut_short before)
     ∷ (Missing, ends_header role before && some_missing given)
-    ∷ (Misplaced, is_header_command role && has_begun before)
+    ∷ (Misplaced, (is_header_command role && has_begun before) || (changes_bonds role && not (has_begun before)))
     ∷ (McsOrder, is_back_in_time role rest before)
-    ∷ (BadMonomer, ends_header role before && list_any (is_beyond (count_in given)) (pairs_of before))
+    ∷ (BadMonomer, ends_header role before && names_beyond (count_in given) before)
     ∷ (TooManyBonds, ends_header role before && is_overfull (listed_bonds (count_in given) (pairs_of before)))
     ∷ (Unbuilt, is_unbuilt role)
     ∷ []
@@ -138,6 +157,32 @@ vector_cause set text = entered (λ e. refusal_of set e.0 e.1) (vector_entry tex
 -- an entry of the list of bonds
 abbrev pub bond_cause : List ℕ → Option Cause
 bond_cause text = entered (λ pair. None) (pair_entry text)
+
+-- an entry of a list of labels or valences, which are at most so much
+abbrev pub range_cause : ℕ → List ℕ → Option Cause
+range_cause greatest text = entered (λ e. None) (range_entry text greatest)
+
+-- an entry that fixes monomers
+abbrev pub fixed_cause : List ℕ → Option Cause
+fixed_cause text = entered (λ range. None) (monomers_entry text)
+
+-- A bond that is added. Whether its vector is in the set is judged with the frame that follows.
+abbrev pub added_cause : Draft → List ℕ → Option Cause
+added_cause draft text =
+    let bonds = draft.world.bonds in
+    entered (λ pair. least (
+    (BadMonomer, is_beyond draft.count pair)
+    ∷ (TooManyBonds, not (are_bonded bonds pair.0 pair.1) && (is_full bonds pair.0 || is_full bonds pair.1))
+    ∷ []
+    )) (pair_entry text)
+
+-- a bond that is taken away
+abbrev pub removed_cause : Draft → List ℕ → Option Cause
+removed_cause draft text = entered (λ pair. least (
+    (BadMonomer, is_beyond draft.count pair)
+    ∷ (BondUnknown, not (are_bonded draft.world.bonds pair.0 pair.1))
+    ∷ []
+    )) (pair_entry text)
 
 -- one of the positions, each after those before it, does not pass the test
 abbrev pub some_fails : (List P3 → P3 → Bool) → List P3 → List P3 → Bool
@@ -183,6 +228,11 @@ entry_cause before owners.Nobody text = Some BadLine
 entry_cause before owners.Unknown text = None
 entry_cause before (owners.Command SetOfBondVectors) text = vector_cause (set_of before) text
 entry_cause before (owners.Command Bonds) text = bond_cause text
+entry_cause before (owners.Command Attributes) text = range_cause GREATEST_LABEL text
+entry_cause before (owners.Command Valence) text = range_cause GREATEST_VALENCE text
+entry_cause before (owners.Command Fixed) text = fixed_cause text
+entry_cause before (owners.Command AddBonds) text = added_cause (draft_of before) text
+entry_cause before (owners.Command RemoveBonds) text = removed_cause (draft_of before) text
 entry_cause before (owners.Command Mcs) text = frame_cause (is_first_frame before) (draft_of before) text
 entry_cause before (owners.Command known) text = Some BadLine
 

@@ -6,8 +6,7 @@ use Rattle.bfm_base.specs.declared.place.P3.{P3}
 use Rattle.bfm_base.specs.Place.{extent_of}
 use Rattle.bfm_base.specs.declared.cause.Cause.{Cause}
 use Rattle.bfm_base.specs.declared.cause.Cause.TheVariants.{BadLine, OutOfLimit, BadMonomer}
-use Rattle.bfm_base.specs.declared.limits.TheConstants.{MOST_MONOMERS, START_REACH, GREATEST_NUMBER}
-use Rattle.bfm_commands.specs.declared.forms.TheConstants.{GREATEST_CLASS, GREATEST_WEIGHT, GREATEST_THRESHOLD}
+use Rattle.bfm_base.specs.declared.limits.TheConstants.{MOST_MONOMERS, START_REACH, GREATEST_NUMBER, GREATEST_CLASS, GREATEST_WEIGHT, GREATEST_THRESHOLD}
 use Rattle.bfm_lexer.specs.Fields.{◌>>=◌, behind_mark, number_field, lone_number, lone_natural, number_before, natural_before}
 use Rattle.bfm_commands.specs.declared.forms.Range.{Range}
 

@@ -1,6 +1,6 @@
 -- What the finished lines of a file give. They come newest first, so that what a line adds is told by it and by the
 -- lines before it.
-use Rattle.std.specs.Prelude.{ℕ, zero, suc, ◌+◌, ◌-◌, ◌==◌, Bool, true, false, not, ◌&&◌, ℤ, pos, negsuc, unsigned_abs, List, [], ◌∷◌, ◌++◌, length, replicate, Option, None, Some, is_some, unwrap_or, option_and_then, find, Result, if◌then◌else◌}
+use Rattle.std.specs.Prelude.{ℕ, zero, suc, ◌+◌, ◌-◌, ◌==◌, Bool, true, false, not, ◌&&◌, nat_le, ℤ, pos, negsuc, unsigned_abs, List, [], ◌∷◌, ◌++◌, length, replicate, Option, None, Some, is_some, unwrap_or, option_and_then, find, Result, if◌then◌else◌}
 use Rattle.std.specs.List.{list_any}
 use Rattle.std.specs.Result.{result_ok}
 use Rattle.bfm_base.specs.declared.cause.Cause.{Cause}
@@ -8,9 +8,9 @@ use Rattle.bfm_base.specs.declared.place.P3.{P3}
 use Rattle.bfm_base.specs.declared.place.Shape.{Shape}
 use Rattle.bfm_geom.specs.Difference.{plus}
 use Rattle.bond_set.specs.BondSet.{vector_of}
-use Rattle.bfm_world.specs.Bonds.{are_bonded, with_bond}
+use Rattle.bfm_world.specs.Bonds.{are_bonded, with_bond, without_bond}
 use Rattle.bfm_world.specs.Draft.{Draft}
-use Rattle.bfm_commands.specs.Forms.{value_number, vector_entry, pair_entry, frame_line}
+use Rattle.bfm_commands.specs.Forms.{value_number, vector_entry, pair_entry, range_entry, monomers_entry, frame_line}
 use Rattle.bfm_commands.specs.Meaning.{Meaning, nothing, command, entry, meaning_of, role_of}
 use Rattle.bfm_commands.specs.declared.commands.Known.{Known}
 use Rattle.bfm_commands.specs.declared.commands.Known.TheVariants.{NumberOfMonomers, BoxX, BoxY, BoxZ, PeriodicX, PeriodicY, PeriodicZ, SetOfBondVectors, Bonds, Attributes, Valence, Fixed, Contacts, Acceptance, Mcs, AddBonds, RemoveBonds, Stream, Solid}
@@ -19,6 +19,8 @@ use Rattle.bfm_commands.specs.declared.role.Role.TheVariants as roles
 use Rattle.bfm_commands.specs.declared.owner.Owner.{Owner}
 use Rattle.bfm_commands.specs.declared.owner.Owner.TheVariants.{Nobody, Unknown, Command}
 use Rattle.bfm_commands.specs.declared.settings.Given.{Given}
+use Rattle.bfm_commands.specs.declared.forms.Range.{Range}
+use Rattle.bfm_base.specs.declared.limits.TheConstants.{GREATEST_LABEL, GREATEST_VALENCE}
 
 -- lines, the newest first
 abbrev pub History : Type 0
@@ -144,6 +146,64 @@ abbrev pub pairs_of : History → List (ℕ × ℕ)
 pairs_of [] = []
 pairs_of (line ∷ before) = with_listed (pairs_of before) (given_in pair_entry (entry_of Bonds (owner_of before) (meaning_of line)))
 
+-- Labels and valences of monomers.
+
+abbrev pub with_said : List (Range × ℕ) → Option (Range × ℕ) → List (Range × ℕ)
+with_said said None = said
+with_said said (Some e) = said ++ e ∷ []
+
+-- what the entries of a command say of monomers; each gives at most so much
+abbrev pub said_of : Known → ℕ → History → List (Range × ℕ)
+said_of known greatest [] = []
+said_of known greatest (line ∷ before) =
+    with_said (said_of known greatest before) (given_in (λ text. range_entry text greatest) (entry_of known (owner_of before) (meaning_of line)))
+
+abbrev pub labels_of : History → List (Range × ℕ)
+labels_of lines = said_of Attributes GREATEST_LABEL lines
+
+abbrev pub valences_of : History → List (Range × ℕ)
+valences_of lines = said_of Valence GREATEST_VALENCE lines
+
+abbrev pub is_among : Range → ℕ → Bool
+is_among range i = nat_le range.first i && nat_le i range.last
+
+-- what is said of a monomer, by entries each of which replaces what stood before
+abbrev pub last_said : List (Range × ℕ) → ℕ → ℕ → ℕ
+last_said [] i value = value
+last_said (e ∷ said) i value = last_said said i (if is_among e.0 i then e.1 else value)
+
+-- the same of so many monomers, from one on; it is 0 where nothing is said
+abbrev pub said_from : List (Range × ℕ) → ℕ → ℕ → List ℕ
+said_from said i zero = []
+said_from said i (suc n) = last_said said i 0 ∷ said_from said (i + 1) n
+
+abbrev pub said_of_each : List (Range × ℕ) → ℕ → List ℕ
+said_of_each said count = said_from said 0 count
+
+-- Monomers that are fixed.
+
+abbrev pub with_range : List Range → Option Range → List Range
+with_range ranges None = ranges
+with_range ranges (Some range) = ranges ++ range ∷ []
+
+-- the ranges of the entries that fix monomers
+abbrev pub fixed_of : History → List Range
+fixed_of [] = []
+fixed_of (line ∷ before) = with_range (fixed_of before) (given_in monomers_entry (entry_of Fixed (owner_of before) (meaning_of line)))
+
+-- some range has a monomer
+abbrev pub is_in_some : List Range → ℕ → Bool
+is_in_some ranges i = list_any (λ range. is_among range i) ranges
+
+-- the same of so many monomers, from one on
+abbrev pub in_some_from : List Range → ℕ → ℕ → List Bool
+in_some_from ranges i zero = []
+in_some_from ranges i (suc n) = is_in_some ranges i ∷ in_some_from ranges (i + 1) n
+
+-- whether each of so many monomers is fixed by these ranges
+abbrev pub fixed_of_each : List Range → ℕ → List Bool
+fixed_of_each ranges count = in_some_from ranges 0 count
+
 -- A pair that is bonded has no further effect.
 abbrev pub with_pair : List (List ℕ) → ℕ × ℕ → List (List ℕ)
 with_pair bonds pair = if are_bonded bonds pair.0 pair.1 then bonds else with_bond bonds pair.0 pair.1
@@ -200,14 +260,35 @@ abbrev pub chain : ℕ → ℕ → List (ℕ × ℕ)
 chain k zero = []
 chain k (suc n) = (k, k + 1) ∷ chain (k + 1) n
 
--- the successive monomers in the lines of the first frame, who are bonded
-abbrev pub shown_pairs : History → List (ℕ × ℕ)
-shown_pairs [] = []
-shown_pairs (line ∷ before) =
-    if is_first_frame before then shown_pairs before ++ chain (length (positions_of before)) (length (positions_by before (meaning_of line)) - 1)
-    else shown_pairs before
+-- the successive monomers in a line of the first frame, who are bonded
+abbrev pub shown_by : History → Meaning → List (ℕ × ℕ)
+shown_by before line =
+    if is_first_frame before then chain (length (positions_of before)) (length (positions_by before line) - 1) else []
 
--- the world that the frame gives, as far as its lines have come
+-- the pair that an entry of a command names
+abbrev pub pair_in : Known → History → Meaning → Option (ℕ × ℕ)
+pair_in known before line = given_in pair_entry (entry_of known (owner_of before) line)
+
+abbrev pub with_added : List (List ℕ) → Option (ℕ × ℕ) → List (List ℕ)
+with_added bonds None = bonds
+with_added bonds (Some pair) = with_pair bonds pair
+
+abbrev pub with_removed : List (List ℕ) → Option (ℕ × ℕ) → List (List ℕ)
+with_removed bonds None = bonds
+with_removed bonds (Some pair) = without_bond bonds pair.0 pair.1
+
+-- the bonds after a line: those that it shows and the one that it adds are there, and the one that it removes is not
+abbrev pub bonds_after : History → Meaning → List (List ℕ) → List (List ℕ)
+bonds_after before line bonds =
+    with_removed (with_added (with_pairs bonds (shown_by before line)) (pair_in AddBonds before line)) (pair_in RemoveBonds before line)
+
+-- the bonds after all lines, where the header lists these
+abbrev pub bonds_of : List (List ℕ) → History → List (List ℕ)
+bonds_of listed [] = listed
+bonds_of listed (line ∷ before) =
+    if has_begun before then bonds_after before (meaning_of line) (bonds_of listed before) else listed
+
+-- the world that the frame gives, as far as the lines have come
 abbrev pub draft_of : History → Draft
 draft_of lines =
     let header = header_of lines in
@@ -217,7 +298,10 @@ draft_of lines =
         shape = shape_in given;
         set = set_of header;
         positions = positions_of lines;
-        bonds = with_pairs (listed_bonds (count_in given) (pairs_of header)) (shown_pairs lines);
+        bonds = bonds_of (listed_bonds (count_in given) (pairs_of header)) lines;
+        labels = said_of_each (labels_of header) (count_in given);
+        valences = said_of_each (valences_of header) (count_in given);
+        fixed = fixed_of_each (fixed_of header) (count_in given);
       };
       count = count_in given;
     }

@@ -8,4 +8,5 @@ pub mod Meaning
 pub mod Placing
 pub mod Reading
 pub mod Settings
+pub mod Strokes
 pub mod Verdict

@@ -1,24 +1,18 @@
 ghost use Rattle.std.specs.Prelude.{◌≡◌, ◌≢◌, ◌<◌, ◌≤◌, IfOk, IfSome, MatchResult, Some, Ok, Err, option_map, unsigned_abs};
 ghost use Rattle.bfm_base.specs.Place.{extent_of};
-ghost use Rattle.bfm_base.specs.declared.limits.TheConstants.{MOST_MONOMERS, START_REACH, GREATEST_NUMBER};
+ghost use Rattle.bfm_base.specs.declared.limits.TheConstants.{MOST_MONOMERS, START_REACH, GREATEST_CLASS, GREATEST_NUMBER, GREATEST_THRESHOLD, GREATEST_WEIGHT};
 ghost use Rattle.bfm_commands.specs.Forms.{contact_entry, contact_numbers, frame_line, frame_numbers, limited_contact, limited_monomers, limited_range, limited_vector, lone_span, monomers_entry, monomers_numbers, monomer_of, natural_within, pair_entry, pair_numbers, range_entry, range_numbers, single_numbers, span_numbers, string_of, threshold_entry, value_number, value_of, vector_entry, vector_numbers};
 ghost use Rattle.bfm_lexer.specs.Cursor.{capped};
 ghost use Rattle.bfm_commands.specs.Capped.{capped_pair, capped_place, capped_numbered, capped_vector, capped_frame};
 
-use bfm_base::limits::{GREATEST_NUMBER, MOST_MONOMERS, START_REACH};
+use bfm_base::limits::{
+    GREATEST_CLASS, GREATEST_NUMBER, GREATEST_THRESHOLD, GREATEST_WEIGHT, MOST_MONOMERS,
+    START_REACH,
+};
 use bfm_base::{Cause, P3};
 use bfm_lexer::{
     behind_mark, lone_natural, lone_number, natural_before, number_before, number_field,
 };
-
-/// The greatest class of a monomer; the least is 1.
-pub const GREATEST_CLASS: u64 = 15;
-
-/// The greatest absolute value of the weight of a contact.
-pub const GREATEST_WEIGHT: u64 = 1_000;
-
-/// The greatest acceptance threshold: 2^32, with which every attempt is accepted.
-pub const GREATEST_THRESHOLD: u64 = 4_294_967_296;
 
 /// Successive monomers, from the first to the last, both counted from 0.
 #[derive(Clone, Copy, Debug, PartialEq, Eq)]
@@ -188,10 +182,10 @@ fn limited_contact(first: i64, second: i64, weight: i64) -> Result<((u8, u8), i3
     ensures classes { IfOk result (λ e. (1 ≤ e.0.0) × (e.0.0 ≤ GREATEST_CLASS) × (1 ≤ e.0.1) × (e.0.1 ≤ GREATEST_CLASS)) }
     ensures weight { IfOk result (λ e. unsigned_abs e.1 ≤ GREATEST_WEIGHT) }
 {
-    let Some(first) = natural_within(first, 1, GREATEST_CLASS) else {
+    let Some(first) = natural_within(first, 1, u64::from(GREATEST_CLASS)) else {
         return Err(Cause::OutOfLimit);
     };
-    let Some(second) = natural_within(second, 1, GREATEST_CLASS) else {
+    let Some(second) = natural_within(second, 1, u64::from(GREATEST_CLASS)) else {
         return Err(Cause::OutOfLimit);
     };
     if weight.unsigned_abs() > GREATEST_WEIGHT {

@@ -5,20 +5,20 @@ ghost use Rattle.bond_set.specs.BondSet.{vector_of};
 ghost use Rattle.bfm_geom.specs.Walls.{is_within_walls};
 ghost use Rattle.bfm_world.specs.Configuration.{reach_of, IsSound, may_bond, position_at};
 ghost use Rattle.bfm_world.specs.Draft.{with_positions, with_bonds};
-ghost use Rattle.bfm_commands.specs.Causes.{frame_cause, is_overfull, some_fails, is_apart, is_bonded_well, some_unbonded};
+ghost use Rattle.bfm_commands.specs.Causes.{frame_cause, is_overfull, some_fails, is_bonded_well, some_unbonded};
 ghost use Rattle.bfm_commands.specs.Forms.{frame_line};
 ghost use Rattle.bfm_commands.specs.History.{string_positions, line_positions, given_in, with_pairs, chain};
 ghost use Rattle.bfm_commands.specs.Placing.{placing_cause, positions_cause, later_cause, with_line, with_later_line};
-ghost use Rattle.bfm_commands.specs.Reading.{IsFault, IsLineBegun};
+ghost use Rattle.bfm_commands.specs.Reading.{IsFault, IsLineBegun, is_complete, standing};
 
 use crate::fault::LineFault;
 use crate::forms::frame_line;
 use bfm_base::limits::{MOST_MONOMERS, START_REACH, WORLD_REACH};
 use bfm_base::{Cause, P3};
 use bfm_geom::shifted;
-use bfm_world::{WorldBuilder, is_clear, is_within_walls, keeps_bonds};
+use bfm_world::{WorldBuilder, are_apart, is_within_walls, keeps_bonds};
 use bond_set::BondSet;
-use std::alloc::AllocError;
+use std::alloc::{AllocError, Global};
 
 /// The frame as far as its lines have come. The positions are kept once more, in a list of its own,
 /// since a monomer that a builder refuses may be followed by one with a lesser cause.
@@ -29,17 +29,22 @@ pub(crate) struct FrameLines {
 }
 
 impl FrameLines {
-    /// Begins the next frame.
-    pub fn begin(&mut self)
-        ensures builder { self.new.builder ≡ with_positions self.old.builder [] }
-        ensures list { self.new.positions.items ≡ [] }
+    /// Why a line is refused that stands behind the last line of a whole frame.
+    pub fn refusal_behind(&self, text: &[u8]) -> LineFault
+        requires { is_complete (standing self.now) ≡ true }
+        ensures { (first : Bool) → IsFault result (frame_cause first (standing self.now) text.now) }
     {
-        self.builder.begin();
-        self.positions.clear();
+        match frame_line(text) {
+            Err(cause) => LineFault::Refused(cause),
+            Ok((_, identifiers)) if !are_known(self.builder.set(), identifiers) => {
+                LineFault::Refused(Cause::UnknownId)
+            }
+            Ok(_) => LineFault::Refused(Cause::FrameLong),
+        }
     }
 
     /// Takes a line of the first frame, whose successive monomers are bonded by it.
-    pub fn take_first(&mut self, text: &[u8]) -> Result<(), LineFault>
+    pub fn take_first(&mut self, alloc: Global, text: &[u8]) -> Result<(), LineFault>
         requires list { self.old.positions.items ≡ self.old.builder.world.positions }
         requires reach { reach_of self.old.positions.items ≤ WORLD_REACH }
         ensures taken { OnOk result ((frame_cause true self.old.builder text.now ≡ None)
@@ -50,12 +55,11 @@ impl FrameLines {
     {
         let begun = self.positions.len();
         self.add_line(text)?;
-        place_line(&mut self.builder, &self.positions, begun)?;
-        Ok(())
+        place_line(alloc, &mut self.builder, &self.positions, begun)
     }
 
     /// Takes a line of a later frame, whose successive monomers have to be bonded.
-    pub fn take_later(&mut self, text: &[u8]) -> Result<(), LineFault>
+    pub fn take_later(&mut self, alloc: Global, text: &[u8]) -> Result<(), LineFault>
         requires list { self.old.positions.items ≡ self.old.builder.world.positions }
         requires reach { reach_of self.old.positions.items ≤ WORLD_REACH }
         ensures taken { OnOk result ((frame_cause false self.old.builder text.now ≡ None)
@@ -66,8 +70,7 @@ impl FrameLines {
     {
         let begun = self.positions.len();
         self.add_line(text)?;
-        place_later_line(&mut self.builder, &self.positions, begun)?;
-        Ok(())
+        place_later_line(alloc, &mut self.builder, &self.positions, begun)
     }
 
     /// Adds the positions that a line gives to the list, where they are not too many.
@@ -99,7 +102,12 @@ fn are_known(set: &BondSet, identifiers: &[u8]) -> bool
 }
 
 /// Places the monomers from one on where the list of positions says, and joins successive ones.
-fn place_line(builder: &mut WorldBuilder, positions: &[P3], begun: usize) -> Result<(), Cause>
+fn place_line(
+    alloc: Global,
+    builder: &mut WorldBuilder,
+    positions: &[P3],
+    begun: usize,
+) -> Result<(), LineFault>
     requires begun { begun < length positions.now }
     requires placed { builder.old.world.positions ≡ take begun positions.now }
     requires room { length positions.now ≤ builder.old.count }
@@ -108,30 +116,38 @@ fn place_line(builder: &mut WorldBuilder, positions: &[P3], begun: usize) -> Res
     requires steps { (k : ℕ) → begun ≤ k → k + 1 < length positions.now
         → may_bond builder.old.world.shape builder.old.world.set (position_at positions.now k) (position_at positions.now (k + 1)) ≡ true }
     ensures ok { OnOk result ((builder.new ≡ with_line builder.old (drop begun positions.now)) × (positions_cause builder.old (drop begun positions.now) ≡ None)) }
-    ensures err { IfErr result (λ cause. positions_cause builder.old (drop begun positions.now) ≡ Some cause) }
+    ensures err { IfErr result (λ fault. IsFault fault (positions_cause builder.old (drop begun positions.now))) }
 {
     if !place_all(builder, positions) {
-        return Err(least_cause(builder, positions, begun).unwrap());
+        let cause = least_cause(alloc, builder, positions, begun)?;
+        return Err(LineFault::Refused(cause.unwrap()));
     }
-    join_successive(builder, begun, positions.len() - 1 - begun)
+    join_successive(builder, begun, positions.len() - 1 - begun)?;
+    Ok(())
 }
 
 /// Places the monomers from one on where the list of positions says, where successive ones are
 /// bonded.
-fn place_later_line(builder: &mut WorldBuilder, positions: &[P3], begun: usize) -> Result<(), Cause>
+fn place_later_line(
+    alloc: Global,
+    builder: &mut WorldBuilder,
+    positions: &[P3],
+    begun: usize,
+) -> Result<(), LineFault>
     requires begun { begun < length positions.now }
     requires placed { builder.old.world.positions ≡ take begun positions.now }
     requires room { length positions.now ≤ builder.old.count }
     requires reach { reach_of positions.now ≤ WORLD_REACH }
     requires sound { IsSound builder.old.count builder.old.world }
     ensures ok { OnOk result ((builder.new ≡ with_later_line builder.old (drop begun positions.now)) × (later_cause builder.old (drop begun positions.now) ≡ None)) }
-    ensures err { IfErr result (λ cause. later_cause builder.old (drop begun positions.now) ≡ Some cause) }
+    ensures err { IfErr result (λ fault. IsFault fault (later_cause builder.old (drop begun positions.now))) }
 {
     if !place_all(builder, positions) {
-        return Err(least_cause(builder, positions, begun).unwrap());
+        let cause = least_cause(alloc, builder, positions, begun)?;
+        return Err(LineFault::Refused(cause.unwrap()));
     }
     if some_unbonded(builder, begun, positions.len() - 1 - begun) {
-        return Err(Cause::BondUnknown);
+        return Err(LineFault::Refused(Cause::BondUnknown));
     }
     Ok(())
 }
@@ -193,23 +209,29 @@ fn place_all(builder: &mut WorldBuilder, positions: &[P3]) -> bool
 }
 
 /// Why the monomers from one on may not stand where the list of positions says, if they may not.
-fn least_cause(builder: &WorldBuilder, positions: &[P3], begun: usize) -> Option<Cause>
+fn least_cause(
+    alloc: Global,
+    builder: &WorldBuilder,
+    positions: &[P3],
+    begun: usize,
+) -> Result<Option<Cause>, AllocError>
     requires begun { begun ≤ length positions.now }
     requires room { length positions.now ≤ builder.now.count }
     requires few { builder.now.count ≤ MOST_MONOMERS }
     requires reach { reach_of positions.now ≤ WORLD_REACH }
-    ensures { result ≡ placing_cause (with_positions builder.now (take begun positions.now)).world (drop begun positions.now) }
+    requires sound { IsSound builder.now.count (with_positions builder.now (take begun positions.now)).world }
+    ensures { IfOk result (λ cause. cause ≡ placing_cause (with_positions builder.now (take begun positions.now)).world (drop begun positions.now)) }
 {
     if some_outside(builder, positions, begun) {
-        return Some(Cause::Outside);
+        return Ok(Some(Cause::Outside));
     }
-    if some_overlaps(builder, positions, begun) {
-        return Some(Cause::Overlap);
+    if !are_apart(alloc, builder.shape(), positions)? {
+        return Ok(Some(Cause::Overlap));
     }
     if some_bonded_badly(builder, positions, begun) {
-        return Some(Cause::BadBond);
+        return Ok(Some(Cause::BadBond));
     }
-    None
+    Ok(None)
 }
 
 /// Whether one of the monomers from one on is beyond a wall.
@@ -220,21 +242,6 @@ fn some_outside(builder: &WorldBuilder, positions: &[P3], begun: usize) -> bool
     let shape = builder.shape();
     for k in begun..positions.len() {
         if !is_within_walls(&shape, positions[k]) {
-            return true;
-        }
-    }
-    false
-}
-
-/// Whether one of the monomers from one on overlaps one with a lower number.
-fn some_overlaps(builder: &WorldBuilder, positions: &[P3], begun: usize) -> bool
-    requires begun { begun ≤ length positions.now }
-    requires reach { reach_of positions.now ≤ WORLD_REACH }
-    ensures { result ≡ some_fails (is_apart builder.now.world) (take begun positions.now) (drop begun positions.now) }
-{
-    let shape = builder.shape();
-    for k in begun..positions.len() {
-        if !is_clear(&shape, &positions[..k], positions[k]) {
             return true;
         }
     }

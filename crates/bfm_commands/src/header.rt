@@ -1,27 +1,31 @@
-ghost use Rattle.std.specs.Prelude.{◌≡◌, ◌≢◌, ◌≤◌, false, true, [], ◌++◌, length, All, None, Some, IfOk, IfErr, OnOk, OnErr, IfSome};
+ghost use Rattle.std.specs.Prelude.{◌≡◌, ◌≢◌, ◌≤◌, false, true, [], ◌++◌, length, replicate, All, None, Some, IfOk, IfErr, OnOk, OnErr, IfSome};
 ghost use Rattle.std.specs.List.{list_any};
 ghost use Rattle.bfm_base.specs.declared.cause.Cause.TheVariants.{TooManyBonds};
-ghost use Rattle.bfm_base.specs.declared.limits.TheConstants.{MOST_MONOMERS, GREATEST_NUMBER};
+ghost use Rattle.bfm_base.specs.declared.limits.TheConstants.{MOST_MONOMERS, GREATEST_NUMBER, GREATEST_LABEL, GREATEST_VALENCE};
 ghost use Rattle.bfm_geom.specs.Difference.{IsBox};
 ghost use Rattle.bfm_lexer.specs.Kinds.{is_bare};
+ghost use Rattle.bfm_world.specs.Configuration.{IsSound};
 ghost use Rattle.bfm_world.specs.Draft.{with_bonds};
 ghost use Rattle.bfm_commands.specs.Causes.{vector_cause, bond_cause, some_missing, is_box_too_large, is_beyond, is_overfull};
 ghost use Rattle.bfm_commands.specs.Forms.{vector_entry, pair_entry, value_of};
-ghost use Rattle.bfm_commands.specs.History.{shape_in, count_in, with_pairs, with_vector, with_listed, given_in, given_as, stands};
+ghost use Rattle.bfm_commands.specs.History.{shape_in, count_in, with_pairs, with_vector, with_listed, given_in, given_as, stands, said_of_each, fixed_of_each};
 ghost use Rattle.bfm_commands.specs.Meaning.{role_of};
-ghost use Rattle.bfm_commands.specs.Reading.{IsFault, value_fault, list_fault, entry_fault, with_entry, begin_fault, begun_draft};
+ghost use Rattle.bfm_commands.specs.Reading.{IsFault, value_fault, list_fault, entry_fault, with_entry, begin_fault, begun_draft, names_beyond_in, with_marks, with_labels, with_valences};
 
 use crate::commands::Known;
 use crate::fault::LineFault;
+use crate::fixed::FixedRanges;
 use crate::forms::{pair_entry, value_of, vector_entry};
 use crate::pairs::Pairs;
+use crate::ranges::Ranges;
 use crate::role::Role;
 use crate::settings::{Given, Settings};
 use bfm_base::Cause;
+use bfm_base::limits::{GREATEST_LABEL, GREATEST_VALENCE};
 use bfm_lexer::is_bare;
 use bfm_world::WorldBuilder;
 use bond_set::BondSet;
-use std::alloc::Global;
+use std::alloc::{AllocError, Global};
 use std::mem;
 
 /// What the lines before the first frame have given so far.
@@ -30,17 +34,26 @@ pub(crate) struct Header {
     pub settings: Settings,
     pub set: BondSet,
     pub pairs: Pairs,
+    pub labels: Ranges<GREATEST_LABEL>,
+    pub valences: Ranges<MOST_VALENCE>,
+    pub fixed: FixedRanges,
 }
+
+/// The greatest valence, as a list of ranges takes it.
+const MOST_VALENCE: u32 = GREATEST_VALENCE as u32;
 
 impl Header {
     /// The header of no line.
     pub fn new(alloc: Global) -> Header
-        ensures { result ≡ record { settings = []; set = []; pairs = [] } }
+        ensures { result ≡ record { settings = []; set = []; pairs = []; labels = []; valences = []; fixed = [] } }
     {
         Header {
             settings: Settings::new(alloc),
             set: BondSet::new(alloc),
             pairs: Pairs::new(alloc),
+            labels: Ranges::new(alloc),
+            valences: Ranges::new(alloc),
+            fixed: FixedRanges::new(alloc),
         }
     }
 
@@ -118,6 +131,9 @@ impl Header {
         match owner {
             Known::SetOfBondVectors => self.take_vector(text),
             Known::Bonds => self.take_pair(text),
+            Known::Attributes => self.labels.take(text),
+            Known::Valence => self.valences.take(text),
+            Known::Fixed => self.fixed.take(text),
             _ => Err(LineFault::Refused(Cause::BadLine)),
         }
     }
@@ -140,13 +156,62 @@ impl Header {
             return Err(LineFault::Refused(Cause::Missing));
         }
         let count = self.settings.count();
-        if self.pairs.some_beyond(count) {
+        if self.some_beyond(count) {
             return Err(LineFault::Refused(Cause::BadMonomer));
         }
         let shape = self.settings.shape();
         let mut builder = WorldBuilder::new(alloc, shape, set, count)?;
         join_all(&mut builder, self.pairs.list())?;
+        self.mark_all(alloc, &mut builder)?;
         Ok(builder)
+    }
+
+    /// Whether an entry names a monomer that is not among so many.
+    fn some_beyond(&self, count: u32) -> bool
+        ensures { result ≡ names_beyond_in count self.now }
+    {
+        self.pairs.some_beyond(count)
+            || self.labels.some_beyond(count)
+            || self.valences.some_beyond(count)
+            || self.fixed.some_beyond(count)
+    }
+
+    /// Gives each monomer its label and its valence, and fixes those that are to be fixed.
+    fn mark_all(&self, alloc: Global, builder: &mut WorldBuilder) -> Result<(), AllocError>
+        requires present { names_beyond_in builder.old.count self.now ≡ false }
+        requires none { builder.old.world.fixed ≡ replicate builder.old.count false }
+        ensures { OnOk result (builder.new ≡ with_marks builder.old
+            (said_of_each self.now.labels builder.old.count) (said_of_each self.now.valences builder.old.count)
+            (fixed_of_each self.now.fixed builder.old.count)) }
+    {
+        label_all(builder, &self.labels.of_each(alloc, builder.count())?);
+        value_all(builder, &self.valences.of_each(alloc, builder.count())?);
+        self.fixed.fix_all(alloc, builder)?;
+        Ok(())
+    }
+}
+
+/// Gives each monomer its label.
+fn label_all(builder: &mut WorldBuilder, labels: &[u32])
+    requires each { length labels.now ≡ builder.old.count }
+    requires sound { IsSound builder.old.count builder.old.world }
+    requires limit { All (λ label. label ≤ GREATEST_LABEL) labels.now }
+    ensures { builder.new ≡ with_labels builder.old labels.now }
+{
+    for (i, label) in labels.iter().enumerate() {
+        builder.label(i as u32, *label);
+    }
+}
+
+/// Gives each monomer its valence.
+fn value_all(builder: &mut WorldBuilder, valences: &[u32])
+    requires each { length valences.now ≡ builder.old.count }
+    requires sound { IsSound builder.old.count builder.old.world }
+    requires limit { All (λ valence. valence ≤ GREATEST_VALENCE) valences.now }
+    ensures { builder.new ≡ with_valences builder.old valences.now }
+{
+    for (i, valence) in valences.iter().enumerate() {
+        builder.valence(i as u32, *valence as u8);
     }
 }
 

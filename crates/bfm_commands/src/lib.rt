@@ -8,6 +8,7 @@
 
 mod commands;
 mod fault;
+mod fixed;
 mod forms;
 #[cfg(test)]
 mod forms_tests;
@@ -18,9 +19,11 @@ mod loaded;
 mod owner;
 mod pairs;
 mod progress;
+mod ranges;
 mod reader;
 mod role;
 mod settings;
+mod strokes;
 mod summary;
 #[cfg(test)]
 mod tests;

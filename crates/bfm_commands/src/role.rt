@@ -13,6 +13,8 @@ pub(crate) enum Role {
     List,
     /// It begins a frame, whose lines follow it.
     Frame,
+    /// Entries follow it that change the bonds once a frame is whole.
+    Change,
     /// It is not built yet.
     Unbuilt,
 }
@@ -27,8 +29,13 @@ pub(crate) fn role_of(command: Known) -> Role
             Role::Value(u64::from(LEAST_SIDE), u64::from(GREATEST_SIDE))
         }
         Known::PeriodicX | Known::PeriodicY | Known::PeriodicZ => Role::Value(0, 1),
-        Known::SetOfBondVectors | Known::Bonds => Role::List,
+        Known::SetOfBondVectors
+        | Known::Bonds
+        | Known::Attributes
+        | Known::Valence
+        | Known::Fixed => Role::List,
         Known::Mcs => Role::Frame,
-        _ => Role::Unbuilt,
+        Known::AddBonds | Known::RemoveBonds => Role::Change,
+        Known::Contacts | Known::Acceptance | Known::Stream | Known::Solid => Role::Unbuilt,
     }
 }

@@ -80,6 +80,7 @@ impl Summary {
             Role::Value(least, greatest) => self.take_value(known, least, greatest, rest)?,
             Role::List => self.take_list(known, rest)?,
             Role::Frame => self.begin_frame(alloc, rest)?,
+            Role::Change => self.begin_changes(rest)?,
             Role::Unbuilt => return Err(self.refusal_behind(Cause::Unbuilt)),
         }
         self.owner = Owner::Command(known);
@@ -126,11 +127,27 @@ impl Summary {
         }
     }
 
+    /// Takes a command whose entries change the bonds of a whole frame.
+    fn begin_changes(&self, rest: &[u8]) -> Result<(), LineFault>
+        requires fit { IsFit self.now }
+        ensures taken { OnOk result ((before : History) (known : Known) → Sums self.now before → role_of known ≡ Role.Change
+            → (command_cause before (Some known) rest.now ≡ None) × GivesFrame known rest.now before self.now) }
+        ensures refused { IfErr result (λ fault. (before : History) (known : Known) → Sums self.now before → role_of known ≡ Role.Change
+            → IsFault fault (command_cause before (Some known) rest.now)) }
+    {
+        match &self.frames {
+            _ if !is_bare(rest) => Err(LineFault::Refused(Cause::BadLine)),
+            None => Err(LineFault::Refused(Cause::Misplaced)),
+            Some(frames) if !frames.is_whole() => Err(LineFault::Refused(Cause::FrameShort)),
+            Some(_) => Ok(()),
+        }
+    }
+
     /// Begins the first frame, or the next one.
     fn begin_frame(&mut self, alloc: Global, rest: &[u8]) -> Result<(), LineFault>
         requires fit { IsFit self.old }
         ensures taken { OnOk result ((before : History) → Sums self.old before
-            → (command_cause before (Some Known.Mcs) rest.now ≡ None) × GivesFrame rest.now before self.new) }
+            → (command_cause before (Some Known.Mcs) rest.now ≡ None) × GivesFrame Known.Mcs rest.now before self.new) }
         ensures fit { OnOk result (IsFit self.new) }
         ensures same { OnOk result ((self.new.skipped ≡ self.old.skipped) × (whole_frames self.new.frames ≡ whole_frames self.old.frames)) }
         ensures refused { IfErr result (λ fault. (before : History) → Sums self.old before → IsFault fault (command_cause before (Some Known.Mcs) rest.now)) }
@@ -200,7 +217,7 @@ impl Summary {
         match (self.owner, &mut self.frames) {
             (Owner::Nobody, _) => Err(LineFault::Refused(Cause::BadLine)),
             (Owner::Unknown, _) => Ok(()),
-            (Owner::Command(_), Some(frames)) => frames.take(alloc, text, bytes),
+            (Owner::Command(known), Some(frames)) => frames.take_entry(alloc, known, text, bytes),
             (Owner::Command(known), None) => self.header.take_entry(known, text),
         }
     }

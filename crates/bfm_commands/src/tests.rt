@@ -27,12 +27,24 @@ const LARGE: &str = "!box_z=512\n!box_y=512\n!box_x=512\n";
 // The bytes 32 and 33 are a space and an exclamation mark, 65 and 66 are A and B.
 const SHORT: &str = "!set_of_bondvectors\n2 0 0:32\n-2 0 0:33\n";
 
+// Two monomers, and the set of two vectors, up to the first frame line.
+const PAIR: &str = "!number_of_monomers=2\n!box_x=8\n!box_y=8\n!box_z=8\n\
+    !periodic_x=1\n!periodic_y=1\n!periodic_z=1\n\
+    !set_of_bondvectors\n2 0 0:32\n-2 0 0:33\n!mcs=0\n";
+
+// Ten monomers, of which the first has eight bonds, with a whole frame: 36 lines.
+const STAR: &str = "!number_of_monomers=10\n!box_x=8\n!box_y=8\n!box_z=8\n\
+    !periodic_x=1\n!periodic_y=1\n!periodic_z=1\n\
+    !set_of_bondvectors\n2 0 0:1\n-2 0 0:2\n0 2 0:3\n0 -2 0:4\n0 0 2:5\n0 0 -2:6\n3 3 3:7\n-3 -3 -3:8\n\
+    !bonds\n1 2\n1 3\n1 4\n1 5\n1 6\n1 7\n1 8\n1 9\n\
+    !mcs=0\n0 0 0\n2 0 0\n-2 0 0\n0 2 0\n0 -2 0\n0 0 2\n0 0 -2\n3 3 3\n-3 -3 -3\n4 4 0\n";
+
 const LONG: &str = "!set_of_bondvectors\n 3\t0 0 : 65 \n-3 0 0:66\n";
 
 // What comes first, what comes then, and the refused line with its cause: the least one where it
 // has several.
 #[rattlefmt::skip]
-const REFUSED: [(&str, &str, u64, Cause); 45] = [
+const REFUSED: [(&str, &str, u64, Cause); 39] = [
     ("", "3 3 3\n", 1, Cause::BadLine),
     ("!box_x 8\n", "", 1, Cause::BadLine),
     ("!box_x=7\n", "", 1, Cause::OutOfLimit),
@@ -42,18 +54,65 @@ const REFUSED: [(&str, &str, u64, Cause); 45] = [
     ("!box_x=8\n", "!box_x=7\n", 2, Cause::OutOfLimit),
     ("!bonds\n", "!bonds \n", 2, Cause::Repeated),
     ("!bonds 1\n", "", 1, Cause::BadLine),
-    ("!attributes\n", "", 1, Cause::Unbuilt),
+    ("!attributes 1\n", "", 1, Cause::BadLine),
+    ("!attributes\n", "1 2\n", 2, Cause::BadLine),
+    ("!attributes\n", "-1-2:3\n", 2, Cause::BadLine),
+    ("!attributes\n", "-1:3\n", 2, Cause::OutOfLimit),
+    ("!attributes\n", "1:2147483647\n1:2147483648\n", 3, Cause::OutOfLimit),
+    ("!attributes\n", "262144:1\n1-262145:1\n", 3, Cause::OutOfLimit),
+    ("!attributes\n", "2-2:1\n2-1:1\n", 3, Cause::BadMonomer),
+    ("!attributes\n", "!bfm_valence\n!attributes\n", 3, Cause::Repeated),
+    ("!bfm_valence\n", "1-2:8\n1 - 2 : 9\n", 3, Cause::OutOfLimit),
+    ("!bfm_valence\n", "1-2:-1\n", 2, Cause::OutOfLimit),
+    ("!bfm_fixed 1\n", "", 1, Cause::BadLine),
+    ("!bfm_fixed\n", "1:1\n", 2, Cause::BadLine),
+    ("!bfm_fixed\n", "0\n", 2, Cause::OutOfLimit),
+    ("!bfm_fixed\n", "262144\n1-262145\n", 3, Cause::OutOfLimit),
+    ("!bfm_fixed\n", "2-2\n2-1\n", 3, Cause::BadMonomer),
+    ("!bfm_fixed\n1\n", "!bfm_fixed\n", 3, Cause::Repeated),
+    ("!bfm_contacts\n", "", 1, Cause::Unbuilt),
+    ("!add_bonds\n", "", 1, Cause::Misplaced),
+    ("!remove_bonds 1\n", "", 1, Cause::BadLine),
     ("!box_x=8\n\n", "", 3, Cause::NoFrame),
     ("", "", 1, Cause::NoFrame),
     (FLAT, "!mcs=0\n3 3 3\n", 7, Cause::Missing),
     (LARGE, "!mcs=0\n", 4, Cause::OutOfLimit),
     (ONE, "!mcs=-1\n", 8, Cause::OutOfLimit),
+    (ONE, "!mcs=5\n3 3 3\n!mcs=4\n", 10, Cause::McsOrder),
+    (TWO, "!set_of_bondvectors\n1 1 0:17\n", 9, Cause::BadVector),
+    (TWO, "!set_of_bondvectors\n2 0 0:17\n2 0 0:17\n", 10, Cause::Repeated),
+    (TWO, "!set_of_bondvectors\n2 0 0:9\n", 9, Cause::OutOfLimit),
+    (TWO, "!bonds\n5 5\n", 9, Cause::BadMonomer),
+    (SHORT, "!number_of_monomers=2\n!bonds\n1 2\n", 7, Cause::NoFrame),
+];
+
+// The same where a frame has begun.
+#[rattlefmt::skip]
+const REFUSED_FRAMES: [(&str, &str, u64, Cause); 43] = [
     (ONE, "!mcs=0\n3 3 3", 9, Cause::NoFrame),
     (ONE, "!mcs=0\n3 3 3\n!box_x=8\n", 10, Cause::Misplaced),
-    (ONE, "!mcs=5\n3 3 3\n!mcs=4\n", 10, Cause::McsOrder),
     (ONE, "!mcs=0\n3 3 3\n4 4 4\n", 10, Cause::FrameLong),
     (ONE, "!mcs=0\n3 3 3\n!mcs=1\nx\n", 11, Cause::BadLine),
-    (ONE, "!mcs=0\n3 3 3\n!add_bonds\n", 10, Cause::Unbuilt),
+    (ONE, "!mcs=0\n3 3 3\nx\n", 10, Cause::BadLine),
+    (ONE, "!mcs=0\n3 3 3\n17592186044417 0 0\n", 10, Cause::OutOfLimit),
+    (ONE, "!mcs=0\n3 3 3\n3 3 3 A\n", 10, Cause::UnknownId),
+    (ONE, "!mcs=0\n3 3 3\n!bfm_valence\n", 10, Cause::Misplaced),
+    (ONE, "!mcs=0\n3 3 3\n!bfm_fixed\n", 10, Cause::Misplaced),
+    (TWO, "!mcs=0\n0 0 0\n!bfm_fixed\n", 10, Cause::FrameShort),
+    (ONE, "!bfm_fixed\n1\n1-2\n!mcs=0\n", 11, Cause::BadMonomer),
+    (ONE, "!attributes\n1-2:1\n!mcs=0\n", 10, Cause::BadMonomer),
+    (ONE, "!bfm_valence\n1:1\n2:1\n!mcs=0\n", 11, Cause::BadMonomer),
+    (TWO, "!mcs=0\n0 0 0\n!add_bonds\n", 10, Cause::FrameShort),
+    (TWO, "!mcs=0\n0 0 0\n!add_bonds 1\n", 10, Cause::BadLine),
+    (TWO, "!mcs=0\n0 0 0\n4 4 4\n!add_bonds\n0 0\n", 12, Cause::OutOfLimit),
+    (TWO, "!mcs=0\n0 0 0\n4 4 4\n!remove_bonds\n2 2\n", 12, Cause::BadMonomer),
+    (TWO, "!mcs=0\n0 0 0\n4 4 4\n!remove_bonds\n3 1\n", 12, Cause::BadMonomer),
+    (TWO, "!mcs=0\n0 0 0\n4 4 4\n!remove_bonds\n1 2\n", 12, Cause::BondUnknown),
+    (TWO, "!mcs=0\n0 0 0\n4 4 4\n!add_bonds\n1 2\n!mcs=1\n0 0 0\n4 4 4\n", 15, Cause::BadBond),
+    (PAIR, "0 0 0  \n!remove_bonds\n1 2\n1 2\n", 15, Cause::BondUnknown),
+    (PAIR, "0 0 0  \n!add_bonds\n1 3\n", 14, Cause::BadMonomer),
+    (PAIR, "0 0 0  \n!remove_bonds\n2 1\n!mcs=0\n0 0 0  \n", 16, Cause::BondUnknown),
+    (STAR, "!add_bonds\n1 2\n10 2\n10 1\n", 40, Cause::TooManyBonds),
     (TWO, "!mcs=0\n0 0 0\n\n!mcs=1\n", 11, Cause::FrameShort),
     (TWO, "!mcs=0\n0 0 0\n!box_x=7\n", 10, Cause::OutOfLimit),
     (TWO, "!mcs=0\n0 0 0\n!box_x=8\n", 10, Cause::FrameShort),
@@ -63,14 +122,9 @@ const REFUSED: [(&str, &str, u64, Cause); 45] = [
     (TWO, "!mcs=0\n0 0 0\n1 1 1\n", 10, Cause::Overlap),
     (TWO, "!mcs=0\n0 0 0\t\n", 9, Cause::BadLine),
     (TWO, "!set_of_bondvectors\n2 0 0:17\n!mcs=0\n", 10, Cause::NotSymmetric),
-    (TWO, "!set_of_bondvectors\n1 1 0:17\n", 9, Cause::BadVector),
-    (TWO, "!set_of_bondvectors\n2 0 0:17\n2 0 0:17\n", 10, Cause::Repeated),
-    (TWO, "!set_of_bondvectors\n2 0 0:9\n", 9, Cause::OutOfLimit),
     (TWO, "!bonds\n!other\n1 2 3\n1 3\n!mcs=0\n0 0 0\n", 14, Cause::NoFrame),
     (TWO, "!bonds\n1 3\n!mcs=0\n", 10, Cause::BadMonomer),
-    (TWO, "!bonds\n5 5\n", 9, Cause::BadMonomer),
     (TEN, "!bonds\n1 2\n1 3\n1 4\n1 5\n1 6\n1 7\n1 8\n1 9\n1 10\n!mcs=0\n", 18, Cause::TooManyBonds),
-    (SHORT, "!number_of_monomers=2\n!bonds\n1 2\n", 7, Cause::NoFrame),
     (TWO, "!set_of_bondvectors\n2 0 0:32\n-2 0 0:33\n!mcs=0\n0 0 0\n2 0 0\n\n!mcs=1\n0 0 0  \n", 16, Cause::BondUnknown),
     (WALLED, "!mcs=0\n3 7 3\n", 9, Cause::Outside),
     (WALLED, "!set_of_bondvectors\n3 0 0:65\n-3 0 0:66\n!mcs=0\n0 0 0\n1 1 1 AA\n", 13, Cause::Outside),
@@ -112,15 +166,31 @@ fn refused(line: u64, cause: Cause) -> Option<ReadStop> {
     Some(ReadStop::Refused(Refused { line, cause }))
 }
 
+// Whether a file is refused at this line for this cause, fed whole and byte by byte.
+fn is_refused_at(rt: &impl Abort, alloc: Global, file: &str, line: u64, cause: Cause) -> bool {
+    let want = refused(line, cause);
+    read(rt, alloc, file).err() == want && read_slowly(rt, alloc, file).err() == want
+}
+
 #[test]
 fn refused_files(rt: HostRuntime) -> Result<(), Fail> {
     for (first, then, line, cause) in REFUSED {
         let file = text_of(rt.alloc(), first, then)?;
-        let want = refused(line, cause);
-        assert!(rt; read(&rt, rt.alloc(), &file).err() == want, "of {file:?}");
         assert!(rt;
-            read_slowly(&rt, rt.alloc(), &file).err() == want,
-            "of {file:?} byte by byte"
+            is_refused_at(&rt, rt.alloc(), &file, line, cause),
+            "{file:?}"
+        );
+    }
+    Ok(())
+}
+
+#[test]
+fn refused_frames(rt: HostRuntime) -> Result<(), Fail> {
+    for (first, then, line, cause) in REFUSED_FRAMES {
+        let file = text_of(rt.alloc(), first, then)?;
+        assert!(rt;
+            is_refused_at(&rt, rt.alloc(), &file, line, cause),
+            "{file:?}"
         );
     }
     Ok(())
@@ -164,6 +234,57 @@ fn accepted_files(rt: HostRuntime) -> Result<(), Fail> {
             slowly.kept == kept && slowly.frames == frames && slowly.mcs == mcs,
             "of {file:?} byte by byte"
         );
+    }
+    Ok(())
+}
+
+// What a file of two monomers gives: whether they are bonded, their labels, and their valences.
+#[rattlefmt::skip]
+const GIVEN: [(&str, &str, bool, [u32; 2], [u8; 2]); 9] = [
+    (TWO, "!mcs=0\n0 0 0\n4 4 4\n", false, [0, 0], [0, 0]),
+    (TWO, "!attributes\n1-2:1\n2:20\n1-1:5\n!bfm_valence\n2:3\n1-2:0\n2-2:8\n!mcs=0\n0 0 0\n4 4 4\n", false, [5, 20], [0, 8]),
+    (TWO, "!attributes\n!other\n1:7\n!bfm_valence\n1:4\n!mcs=0\n0 0 0\n4 4 4\n", false, [0, 0], [4, 0]),
+    (PAIR, "0 0 0\n2 0 0\n!add_bonds\n2 1\n1 2\n!mcs=1\n0 0 0\n2 0 0\n", true, [0, 0], [0, 0]),
+    (PAIR, "0 0 0\n2 0 0\n!add_bonds\n2 1\n", false, [0, 0], [0, 0]),
+    (PAIR, "0 0 0\n4 0 0\n!add_bonds\n2 1\n!mcs=0\n0 0 0\n", false, [0, 0], [0, 0]),
+    (PAIR, "0 0 0  \n!remove_bonds\n1 2\n!mcs=1\n0 0 0\n4 0 0\n", false, [0, 0], [0, 0]),
+    (PAIR, "0 0 0  \n!remove_bonds\n1 2\n!mcs=1\n0 0 0\n", true, [0, 0], [0, 0]),
+    (PAIR, "0 0 0  \n!remove_bonds\n1 2\n!add_bonds\n1 2\n!mcs=1\n0 0 0  \n!remove_bonds\n2 1\n", true, [0, 0], [0, 0]),
+];
+
+#[test]
+fn bonds_labels_and_valences(rt: HostRuntime) -> Result<(), Fail> {
+    for (first, then, bonded, labels, valences) in GIVEN {
+        let file = text_of(rt.alloc(), first, then)?;
+        let world = read(&rt, rt.alloc(), &file)?.world;
+        assert_eq!(rt; world.len(), 2);
+        assert!(rt; world.bonded(0, 1) == bonded, "of {file:?}");
+        assert!(rt; [world.label(0), world.label(1)] == labels, "of {file:?}");
+        assert!(rt;
+            [world.valence(0), world.valence(1)] == valences,
+            "of {file:?}"
+        );
+    }
+    Ok(())
+}
+
+// What comes behind the commands with a value of a file of two monomers, and which of them are fixed.
+#[rattlefmt::skip]
+const FIXED: [(&str, [bool; 2]); 5] = [
+    ("!mcs=0\n0 0 0\n4 4 4\n", [false, false]),
+    ("!bfm_fixed\n2\n!mcs=0\n0 0 0\n4 4 4\n", [false, true]),
+    ("!bfm_fixed\n1-2\n!mcs=0\n0 0 0\n4 4 4\n!mcs=1\n0 0 0\n5 4 4\n", [true, true]),
+    ("!bfm_fixed\n!other\n1\n!mcs=0\n0 0 0\n4 4 4\n", [false, false]),
+    ("!bfm_fixed\n1-1\n# 2\n 1 \n!bfm_valence\n2:1\n!mcs=0\n0 0 0\n4 4 4\n", [true, false]),
+];
+
+#[test]
+fn fixed_monomers(rt: HostRuntime) -> Result<(), Fail> {
+    for (then, fixed) in FIXED {
+        let file = text_of(rt.alloc(), TWO, then)?;
+        let world = read(&rt, rt.alloc(), &file)?.world;
+        assert_eq!(rt; world.len(), 2);
+        assert!(rt; [world.fixed(0), world.fixed(1)] == fixed, "of {file:?}");
     }
     Ok(())
 }

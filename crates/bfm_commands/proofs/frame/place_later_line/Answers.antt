@@ -14,7 +14,7 @@ returns-then-not-place_all-clause-err c =
     let refused = c.place_all.ensures.refused c.if-not-place_all.true in
     let same : with_positions c.place_all.new.builder (take c.args.begun ps) ≡ draft = ap (with_positions c.place_all.new.builder) (sym c.requires.placed) ∙ sym refused.0 in
     later_cause-parts draft ps c.args.begun c.requires.placed c.requires.begun (Some c.unwrap.result) (some_unbonded draft.world.bonds (chain c.args.begun (length ps - 1 - c.args.begun)))
-    (ap (λ (d : Draft). placing_cause d.world (drop c.args.begun ps)) (sym same) ∙ (sym c.least_cause.ensures ∙ c.unwrap.ensures)) refl
+    (ap (λ (d : Draft). placing_cause d.world (drop c.args.begun ps)) (sym same) ∙ (sym c.in_ok-cause.ensures ∙ c.unwrap.ensures)) refl
 
 pub returns-then-some_unbonded-clause-err : goal.returns-then-some_unbonded-clause-err
 returns-then-some_unbonded-clause-err c =

@@ -12,6 +12,6 @@ returns-clause-taken c =
     let value = natural_in-value c.args.rest.now c.args.least c.args.greatest c.in_ok-value.value (sym c.value_of.ensures.value ∙ c.in_ok-value.was) in (
       ap (λ r. value_fault r (stands c.args.command header.settings)) (sym c.value_of.ensures.value ∙ c.in_ok-value.was)
           ∙ ap (λ b. value_fault (Ok c.in_ok-value.value) b) (sym c.stands.ensures ∙ c.if-stands.false),
-      ap (λ (settings : List Given). record { settings = settings; set = header.set; pairs = header.pairs })
+      ap (λ (settings : List Given). record header { settings = settings })
           (c.in_ok-give.ensures ∙ ap (λ v. record { command = c.args.command; value = v } ∷ header.settings) (sym value)),
     )

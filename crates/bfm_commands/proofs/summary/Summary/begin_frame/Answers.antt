@@ -27,7 +27,7 @@ returns-in_ok-next-in-Some-clause-taken c before sums =
     let value = sym c.value_of.ensures.value ∙ c.in_ok-mcs.was in
     let next = (c.in_ok-next-in-Some).ensures in (
       next_cause-ok c.args.self.now before sums c.args.rest.now c.in_ok-mcs.mcs value c.in-Some.frames c.in-Some.is ∙ next.taken,
-      GivesFrame-next c.args.self.now before sums c.args.rest.now c.in_ok-mcs.mcs value c.in-Some.frames _ c.next.new.self c.in-Some.is next.taken refl refl next.builder next.mcs next.whole,
+      GivesFrame-next c.args.self.now before sums c.args.rest.now c.in_ok-mcs.mcs value c.in-Some.frames _ c.next.new.self c.in-Some.is next.taken refl refl next.frame next.mcs next.whole,
     )
 
 pub returns-in_ok-builder-in-None-clause-taken : goal.returns-in_ok-builder-in-None-clause-taken
@@ -36,5 +36,5 @@ returns-in_ok-builder-in-None-clause-taken c before sums =
     let begun = (c.in_ok-builder-in-None).ensures in (
       first_cause-ok c.args.self.now before sums c.args.rest.now c.in_ok-mcs.mcs value c.in-None.is ∙ begun.begun.0,
       GivesFrame-first c.args.self.now before sums c.args.rest.now c.in_ok-mcs.mcs value _ c.new.result c.in-None.is refl refl
-          (c.new.ensures.builder ∙ begun.begun.1) (subst (λ (d : Draft). 1 ≤ d.count) (sym c.new.ensures.builder) begun.some) c.new.ensures.mcs c.new.ensures.none,
+          (c.new.ensures.frame ∙ begun.begun.1) (subst (λ (d : Draft). 1 ≤ d.count) (sym c.new.ensures.frame) begun.some) c.new.ensures.mcs c.new.ensures.none,
     )
