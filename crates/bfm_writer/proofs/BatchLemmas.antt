@@ -51,3 +51,7 @@ pub Sends-rest : {A E : Type 0} (r : Result A E) (a b c : Account) (text left re
     → Sends r a c text
 Sends-rest (Ok v) a b c text left rest p q none = TookAll-first a c text rest (TookFirst-then a b c text left rest p q) none
 Sends-rest (Err e) a b c text left rest p q none = TookPrefix-then a b c text left p q
+
+-- the same text in other words
+pub Passes-text : {A E : Type 0} (r : Result A E) (a b : Account) (bytes text : List ℕ) (rest : A → List ℕ) → bytes ≡ text → Passes r a b bytes rest → Passes r a b text rest
+Passes-text r a b bytes text rest e h = subst (λ t. Passes r a b t rest) e h

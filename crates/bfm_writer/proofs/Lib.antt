@@ -1,4 +1,5 @@
 mod BatchLemmas
+mod ListingLemmas
 mod RowLemmas
 mod RowExamples
 mod RowPositions

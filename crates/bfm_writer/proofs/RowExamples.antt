@@ -1,5 +1,5 @@
 -- The rows of small worlds, worked out by hand.
-use Rattle.std.proofs.Common.{◌≡◌, ℕ, List, [], ◌∷◌, ℤ, pos, negsuc, true, refl}
+use Rattle.std.proofs.Common.{◌≡◌, ℕ, List, [], ◌∷◌, ℤ, pos, negsuc, true, false, refl, map}
 use Rattle.bfm_base.specs.declared.place.P3.{P3}
 use Rattle.bfm_world.specs.Configuration.{Configuration}
 use Rattle.bfm_writer.specs.Rows.{rows_of}
@@ -14,6 +14,9 @@ world_of positions bonds = record {
   set = (at (pos 2), 32) ∷ (at (negsuc 1), 33) ∷ [];
   positions = positions;
   bonds = bonds;
+  labels = map (λ _. 0) positions;
+  valences = map (λ _. 0) positions;
+  fixed = map (λ _. false) positions;
 }
 
 -- two bonded monomers are one row

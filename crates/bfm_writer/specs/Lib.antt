@@ -1,4 +1,6 @@
 pub mod Batch
+pub mod Header
+pub mod Listing
 pub mod Part
 pub mod Rows
 pub mod Text

@@ -78,7 +78,7 @@ fn write_id<S: Sink>(id: u8, part: Part, batch: &mut Batch, sink: &mut S) -> Res
 }
 
 /// Writes a position.
-fn write_position<S: Sink>(p: P3, batch: &mut Batch, sink: &mut S) -> Result<(), Failed>
+pub(crate) fn write_position<S: Sink>(p: P3, batch: &mut Batch, sink: &mut S) -> Result<(), Failed>
     ensures { Passes result (S.account sink.old) (S.account sink.new) (batch.old ++ position_text p) (λ _. batch.new) }
 {
     let (mut x, mut y, mut z) = (Buffer::new(), Buffer::new(), Buffer::new());
@@ -90,7 +90,7 @@ fn write_position<S: Sink>(p: P3, batch: &mut Batch, sink: &mut S) -> Result<(),
 
 /// The identifier by which a monomer that is not the first continues the row of the one before it,
 /// where it does.
-fn continuation(world: &World, k: u32) -> Option<u8>
+pub(crate) fn continuation(world: &World, k: u32) -> Option<u8>
     requires later { 0 < k }
     requires monomer { k < length world.now.positions }
     ensures { result ≡ continuation world.now (k - 1) }

@@ -56,7 +56,11 @@ fn write_bonds<S: Sink>(bonds: &[(u32, u32)], batch: &mut Batch, sink: &mut S) -
 }
 
 /// Writes the line of a bond: its monomers, counted from 1, the lesser one first.
-fn write_bond<S: Sink>(bond: (u32, u32), batch: &mut Batch, sink: &mut S) -> Result<(), Failed>
+pub(crate) fn write_bond<S: Sink>(
+    bond: (u32, u32),
+    batch: &mut Batch,
+    sink: &mut S,
+) -> Result<(), Failed>
     ensures { Passes result (S.account sink.old) (S.account sink.new) (batch.old ++ bond_line bond) (λ _. batch.new) }
 {
     let (i, j) = (u64::from(bond.0), u64::from(bond.1));

@@ -1,6 +1,8 @@
 ghost use Rattle.std.specs.Prelude.{◌^◌, ◌≤◌, length};
+ghost use Rattle.bfm_geom.specs.Difference.{IsBox};
 
-use crate::group;
+use crate::{group, header};
+use bfm_base::limits::{GREATEST_LABEL, GREATEST_VALENCE};
 use bfm_base::{MemSink, P3, Shape};
 use bfm_world::{World, WorldBuilder};
 use bond_set::BondSet;
@@ -32,8 +34,35 @@ fn world_of(
     requires some { 1 ≤ length places.now }
     requires few { length places.now ≤ 2 ^ 18 }
 {
+    marked_world_of(rt, alloc, BOX, set, places, bonds, &[])
+}
+
+/// The world of monomers at these places in a box with these bonds, and monomers with their labels,
+/// their valences and whether they are fixed.
+fn marked_world_of(
+    rt: &impl Abort,
+    alloc: Global,
+    shape: Shape,
+    set: BondSet,
+    places: &[[i8; 3]],
+    bonds: &[(u32, u32)],
+    marks: &[(u32, u32, u8, bool)],
+) -> Result<World, Fail>
+    requires shape { IsBox shape }
+    requires some { 1 ≤ length places.now }
+    requires few { length places.now ≤ 2 ^ 18 }
+{
     set.finish()?;
-    let mut builder = WorldBuilder::new(alloc, BOX, set, places.len() as u32)?;
+    let mut builder = WorldBuilder::new(alloc, shape, set, places.len() as u32)?;
+    for (monomer, label, valence, fixed) in marks {
+        assert!(rt; *monomer < builder.count());
+        assert!(rt; *label <= GREATEST_LABEL && *valence <= GREATEST_VALENCE);
+        builder.label(*monomer, *label);
+        builder.valence(*monomer, *valence);
+        if *fixed {
+            builder.fix(*monomer);
+        }
+    }
     for (i, j) in bonds {
         assert!(rt; builder.join(*i, *j) == Ok(true));
     }
@@ -94,5 +123,94 @@ fn a_group_of_the_usual_set_and_its_prefixes(rt: HostRuntime) -> Result<(), Fail
     let mut sink = MemSink::new(rt.alloc(), 100, 3, &[5])?;
     assert!(rt; group(&world, 10, &[(3, 2), (0, 1)], &mut sink).is_err());
     assert!(rt; sink.bytes() == &text[..12]);
+    Ok(())
+}
+
+#[test]
+fn the_header_of_one_monomer_has_no_lists(rt: HostRuntime) -> Result<(), Fail> {
+    let set = BondSet::new(rt.alloc());
+    let world = world_of(&rt, rt.alloc(), set, &[[3, 3, 3]], &[])?;
+    let mut sink = MemSink::new(rt.alloc(), 200, 7, &[])?;
+    assert!(rt; header(&world, &mut sink).is_ok());
+    let text =
+        "!number_of_monomers=1\n!box_x=8\n!box_y=8\n!box_z=8\n!periodic_x=1\n!periodic_y=1\n!periodic_z=1\n";
+    assert!(rt; sink.bytes() == text.as_bytes());
+    Ok(())
+}
+
+#[test]
+fn walls_and_unlike_sides_stand_in_the_header(rt: HostRuntime) -> Result<(), Fail> {
+    let shape = Shape {
+        sides: [16, 8, 9],
+        periodic: [true, false, false],
+    };
+    let set = BondSet::new(rt.alloc());
+    let world = marked_world_of(&rt, rt.alloc(), shape, set, &[[-3, 6, 7]], &[], &[])?;
+    let mut sink = MemSink::new(rt.alloc(), 200, 7, &[])?;
+    assert!(rt; header(&world, &mut sink).is_ok());
+    let text =
+        "!number_of_monomers=1\n!box_x=16\n!box_y=8\n!box_z=9\n!periodic_x=1\n!periodic_y=0\n!periodic_z=0\n";
+    assert!(rt; sink.bytes() == text.as_bytes());
+    Ok(())
+}
+
+const BOX_TEXT: &str =
+    "!box_x=8\n!box_y=8\n!box_z=8\n!periodic_x=1\n!periodic_y=1\n!periodic_z=1\n";
+
+const PAIR_TEXT: &str = "!set_of_bondvectors\n2 0 0:32\n-2 0 0:33\n";
+
+// (places, bonds, monomers with their labels, their valences and whether they are fixed, first line, lists behind the set)
+#[rattlefmt::skip]
+const HEADERS: [(&[[i8; 3]], &[(u32, u32)], &[(u32, u32, u8, bool)], &str, &str); 10] = [
+    (&[[0, 0, 0]], &[], &[], "!number_of_monomers=1\n", ""),
+    // the line of the frame shows the bond; without a bond there is none to show
+    (&[[0, 0, 0], [2, 0, 0]], &[(0, 1)], &[], "!number_of_monomers=2\n", ""),
+    (&[[0, 0, 0], [2, 0, 0]], &[], &[], "!number_of_monomers=2\n", ""),
+    // through the boundary, and in a ring
+    (&[[0, 0, 0], [6, 0, 0]], &[(0, 1)], &[], "!number_of_monomers=2\n", "!bonds\n1 2\n"),
+    (&[[0, 0, 0], [2, 0, 0], [4, 0, 0], [6, 0, 0]], &[(0, 1), (1, 2), (2, 3), (3, 0)], &[],
+        "!number_of_monomers=4\n", "!bonds\n1 4\n"),
+    // between monomers that do not follow one another, in another order than they are joined
+    (&[[2, 0, 0], [4, 4, 4], [4, 0, 0], [0, 0, 0]], &[(3, 0), (2, 0)], &[], "!number_of_monomers=4\n", "!bonds\n1 3\n1 4\n"),
+    (&[[0, 0, 0], [0, 2, 0], [0, 4, 0], [2, 0, 0], [2, 2, 0], [2, 4, 0]], &[(5, 2), (3, 0), (1, 4)], &[],
+        "!number_of_monomers=6\n", "!bonds\n1 4\n2 5\n3 6\n"),
+    (&[[0, 0, 0], [4, 0, 0], [0, 4, 0]], &[], &[(2, 16, 8, false), (0, 2_147_483_647, 0, false), (1, 0, 0, false)],
+        "!number_of_monomers=3\n", "!attributes\n1:2147483647\n3:16\n!bfm_valence\n3:8\n"),
+    (&[[0, 0, 0], [4, 0, 0], [0, 4, 0]], &[], &[(2, 0, 0, true), (0, 1, 0, true)],
+        "!number_of_monomers=3\n", "!attributes\n1:1\n!bfm_fixed\n1\n3\n"),
+    (&[[0, 0, 0], [6, 0, 0]], &[(0, 1)], &[(0, 0, 3, false), (1, 10, 0, false)],
+        "!number_of_monomers=2\n", "!bonds\n1 2\n!attributes\n2:10\n!bfm_valence\n1:3\n"),
+];
+
+#[test]
+fn headers_of_a_small_set(rt: HostRuntime) -> Result<(), Fail> {
+    for (places, bonds, marks, number, lists) in HEADERS {
+        assert!(rt; !places.is_empty() && places.len() < 10);
+        let set = pair_set(rt.alloc())?;
+        let world = marked_world_of(&rt, rt.alloc(), BOX, set, places, bonds, marks)?;
+        let mut sink = MemSink::new(rt.alloc(), 300, 7, &[])?;
+        assert!(rt; header(&world, &mut sink).is_ok());
+        let text = format!(in rt.alloc(); "{number}{BOX_TEXT}{PAIR_TEXT}{lists}")?;
+        assert!(rt; sink.bytes() == text.as_bytes(), "{text}");
+    }
+    Ok(())
+}
+
+#[test]
+fn a_header_has_the_usual_set_in_its_order(rt: HostRuntime) -> Result<(), Fail> {
+    let usual = BondSet::usual(rt.alloc())?;
+    let world = world_of(&rt, rt.alloc(), usual, &[[0, 0, 0]], &[])?;
+    let mut sink = MemSink::new(rt.alloc(), 4000, 50, &[])?;
+    assert!(rt; header(&world, &mut sink).is_ok());
+    // 91 bytes for the number of monomers and the box
+    let lists = sink.bytes().get(91..).unwrap_or(&[]);
+    let first =
+        "!set_of_bondvectors\n2 0 0:17\n0 2 0:18\n0 0 2:19\n0 0 -2:20\n0 -2 0:21\n-2 0 0:22\n2 1 0:23\n";
+    assert!(rt; lists.starts_with(first.as_bytes()));
+    assert!(rt; lists.ends_with(b"\n-3 1 0:121\n-3 0 1:122\n-3 0 -1:123\n-3 -1 0:124\n"));
+    // where the sink has room for a prefix alone, it takes that
+    let mut short = MemSink::new(rt.alloc(), 95, 50, &[])?;
+    assert!(rt; header(&world, &mut short).is_err());
+    assert!(rt; sink.bytes().starts_with(short.bytes()) && short.bytes().len() == 95);
     Ok(())
 }
