@@ -1,0 +1,4 @@
+pub mod ChainLemmas
+pub mod MeltLemmas
+pub mod PlaceLemmas
+pub mod WayLemmas

@@ -1,0 +1,49 @@
+ghost use Rattle.std.specs.Prelude.{◌≡◌, ◌↔◌, ℕ, ◌+◌, ◌*◌, ◌<◌, ◌≤◌, true, Err, IfOk, IfErr, length};
+ghost use Rattle.bfm_base.specs.declared.limits.TheConstants.{MOST_MONOMERS};
+ghost use Rattle.bfm_geom.specs.Difference.{IsBox};
+ghost use Rattle.bfm_world.specs.Bonds.{are_bonded};
+ghost use Rattle.bfm_world.specs.Configuration.{IsValid, position_of};
+ghost use Rattle.bfm_world.specs.declared.build_fault.BuildFault.{BuildFault};
+ghost use Rattle.melt_builder.specs.Chains.{AreSuccessive};
+ghost use Rattle.melt_builder.specs.Melt.{cells_in, melt_world, IsNextCell};
+
+use crate::cells::{cells_in, place_all};
+use crate::chains::join_chains;
+use bfm_base::Shape;
+use bfm_world::{BuildFault, World, WorldBuilder};
+use bond_set::BondSet;
+use std::alloc::Global;
+
+/// Builds a melt of so many chains of so many monomers each (at most 2^18 monomers in all), with the
+/// usual set. It is refused with `NoRoom` where it needs more cells of two sites a side than the box
+/// has. Each bond is two lattice units along an axis, which is as short as a bond may be.
+pub fn melt(alloc: Global, shape: Shape, chains: u32, length: u32) -> Result<World, BuildFault>
+    requires box_limits { IsBox shape }
+    requires some_chains { 1 ≤ chains }
+    requires some_monomers { 1 ≤ length }
+    requires few { chains * length ≤ MOST_MONOMERS }
+    ensures no_room { cells_in shape < chains * length
+        → result ≡ Err (BuildFault.NoRoom (chains * length) (cells_in shape)) }
+    ensures room { chains * length ≤ cells_in shape → IfErr result (λ fault. fault ≡ BuildFault.Memory) }
+    ensures world { IfOk result (λ world. world ≡ melt_world shape chains length) }
+    ensures valid { IfOk result IsValid }
+
+    // Who is bonded to whom, and how each monomer lies to the one before it.
+    ensures bonded { IfOk result (λ world. (i j : ℕ) → i < chains * length
+        → (are_bonded world.bonds i j ≡ true) ↔ AreSuccessive length i j) }
+    ensures steps { IfOk result (λ world. (k : ℕ) → k + 1 < chains * length → IsNextCell (position_of world k) (position_of world (k + 1))) }
+{
+    let need = chains * length;
+    let have = cells_in(&shape);
+    if need > have {
+        return Err(BuildFault::NoRoom {
+            need: u64::from(need),
+            have: u64::from(have),
+        });
+    }
+    let set = BondSet::usual(alloc)?;
+    let mut builder = WorldBuilder::new(alloc, shape, set, need)?;
+    place_all(&mut builder, need);
+    join_chains(&mut builder, length);
+    Ok(builder.finish())
+}
