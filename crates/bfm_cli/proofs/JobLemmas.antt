@@ -1,11 +1,13 @@
 -- The numbers of a job are in the ranges of their keys.
-use Rattle.std.proofs.Common.{◌≡◌, ℕ, ◌+◌, ◌≤◌, Bool, true, false, cond, ◌&&◌, ◌⊎◌, inl, inr, nat_le, List, [], ◌∷◌, length, refl, sym, ap, Result, Ok, Err, IfOk, Option, None, Some, is_some, arith}
+use Rattle.std.proofs.Common.{◌≡◌, ℕ, ◌+◌, ◌≤◌, Bool, true, false, cond, ◌&&◌, ◌⊎◌, inl, inr, nat_le, List, [], ◌∷◌, length, refl, sym, ap, Result, Ok, Err, IfOk, IfSome, subst, Option, None, Some, is_some, arith}
 use Rattle.std.proofs.lemmas.Bool.Decides.{nat_tests}
 use Rattle.std.specs.Str.{bytes_eq}
 use Rattle.bfm_lexer.specs.Numbers.{natural_of}
+use Rattle.bfm_base.specs.declared.limits.TheConstants.{GREATEST_LIMIT}
+use Rattle.bfm_session.specs.declared.analysis.Ask.{Ask}
 use Rattle.bfm_session.specs.declared.order.RunOrder.{RunOrder}
 use Rattle.bfm_cli.specs.Words.{Key, within, name_in, value_in, given, given_by, number_for}
-use Rattle.bfm_cli.specs.Job.{IsInRange, order_of, run_of, seed_key, frames_key, every_key}
+use Rattle.bfm_cli.specs.Job.{IsInRange, asked_of, look_of, order_of, run_of, seed_key, frames_key, every_key, limit_key}
 use Rattle.bfm_cli.specs.declared.job.Job.{Job}
 use Rattle.bfm_cli.specs.declared.job.Job.TheVariants.{Run, Look}
 
@@ -37,28 +39,56 @@ given_by-range key [] v e = absurd (cc)
 given_by-range key (word ∷ words) v e =
     elim (either_some (given key word) (given_by key words) v e) [ inl f ↦ given-range key word v f | inr h ↦ given_by-range key words v h ]
 
-number_for-range : (key : Key) (words : List (List ℕ)) (v : ℕ) → key.usual ≡ None → number_for key words ≡ Some v → (key.least ≤ v) × (v ≤ key.greatest)
-number_for-range key words v none e =
-    elim (either_some (given_by key words) key.usual v e) [ inl f ↦ given_by-range key words v f | inr h ↦ absurd (cc) ]
+number_for-range : (key : Key) (words : List (List ℕ)) (v : ℕ) → IfSome key.usual (λ n. (key.least ≤ n) × (n ≤ key.greatest)) → number_for key words ≡ Some v → (key.least ≤ v) × (v ≤ key.greatest)
+number_for-range key words v usual e =
+    elim (either_some (given_by key words) key.usual v e) [ inl f ↦ given_by-range key words v f | inr h ↦ rw h at usual ]
 
-order_of-numbers : (missing : ℕ) (s f e : Option ℕ) (order : RunOrder) → order_of missing s f e ≡ Ok (Run order) → (f ≡ Some order.frames) × (e ≡ Some order.every)
-order_of-numbers missing None f e order q = absurd (cc)
-order_of-numbers missing (Some s) None e order q = absurd (cc)
-order_of-numbers missing (Some s) (Some f) None order q = absurd (cc)
-order_of-numbers missing (Some s) (Some f) (Some e) order q =
-    let made : RunOrder = record { seed = s; frames = f; every = e } in
+order_of-numbers : (missing : ℕ) (s f e l : Option ℕ) (order : RunOrder) → order_of missing s f e l ≡ Ok (Run order) → (f ≡ Some order.frames) × (e ≡ Some order.every) × (l ≡ Some order.limit)
+order_of-numbers missing None f e l order q = absurd (cc)
+order_of-numbers missing (Some s) None e l order q = absurd (cc)
+order_of-numbers missing (Some s) (Some f) None l order q = absurd (cc)
+order_of-numbers missing (Some s) (Some f) (Some e) None order q = absurd (cc)
+order_of-numbers missing (Some s) (Some f) (Some e) (Some l) order q =
+    let made : RunOrder = record { seed = s; frames = f; every = e; limit = l } in
     let same : made ≡ order = (cc) in
-    (ap (λ (o : RunOrder). Some o.frames) same, ap (λ (o : RunOrder). Some o.every) same)
+    (ap (λ (o : RunOrder). Some o.frames) same, ap (λ (o : RunOrder). Some o.every) same, ap (λ (o : RunOrder). Some o.limit) same)
+
+limit-range : (words : List (List ℕ)) (limit : ℕ) → number_for limit_key words ≡ Some limit → limit ≤ GREATEST_LIMIT
+limit-range words limit e = (number_for-range limit_key words limit (omega arith, omega arith) e).1
 
 run_of-range : (words : List (List ℕ)) (wrong : Option ℕ) (order : RunOrder) → run_of words wrong ≡ Ok (Run order) → IsInRange (Run order)
 run_of-range words (Some before) order e = absurd (cc)
 run_of-range words None order e =
-    let f = order_of-numbers (length words + 2) (number_for seed_key words) (number_for frames_key words) (number_for every_key words) order e in
-    let every = number_for-range every_key words order.every refl f.1 in
-    ((number_for-range frames_key words order.frames refl f.0).1, every.0, every.1)
+    let f = order_of-numbers (length words + 2) (number_for seed_key words) (number_for frames_key words) (number_for every_key words) (number_for limit_key words) order e in
+    let every = number_for-range every_key words order.every tt f.1 in
+    ((number_for-range frames_key words order.frames tt f.0).1, every.0, every.1, limit-range words order.limit f.2)
+
+not_asked : (missing : ℕ) (s f e l : Option ℕ) (ask : Ask) (limit : ℕ) → order_of missing s f e l ≡ Ok (Look ask limit) → ⊥
+not_asked missing None f e l ask limit q = cc
+not_asked missing (Some s) None e l ask limit q = cc
+not_asked missing (Some s) (Some f) None l ask limit q = cc
+not_asked missing (Some s) (Some f) (Some e) None ask limit q = cc
+not_asked missing (Some s) (Some f) (Some e) (Some l) ask limit q = cc
+
+run_of-asked : (words : List (List ℕ)) (wrong : Option ℕ) (ask : Ask) (limit : ℕ) → run_of words wrong ≡ Ok (Look ask limit) → ⊥
+run_of-asked words (Some before) ask limit e = cc
+run_of-asked words None ask limit e = not_asked _ _ _ _ _ ask limit e
 
 -- the numbers of the run that words ask for are in their ranges
 pub run_of-ranges : (r : Result Job ℕ) (words : List (List ℕ)) (wrong : Option ℕ) → r ≡ run_of words wrong → IfOk r IsInRange
 run_of-ranges (Ok (Run order)) words wrong e = run_of-range words wrong order (sym e)
-run_of-ranges (Ok (Look ask)) words wrong e = tt
+run_of-ranges (Ok (Look ask limit)) words wrong e = absurd (run_of-asked words wrong ask limit (sym e))
 run_of-ranges (Err word) words wrong e = tt
+
+-- and so is the limit of an analysis
+asked_of-range : (ask : Ask) (missing : ℕ) (words : List (List ℕ)) (found : Option ℕ) (job : Job) → number_for limit_key words ≡ found → asked_of ask missing found ≡ Ok job → IsInRange job
+asked_of-range ask missing words None job n e = absurd (cc)
+asked_of-range ask missing words (Some limit) job n e = let same : Look ask limit ≡ job = (cc) in subst IsInRange same (limit-range words limit n)
+
+look_of-range : (ask : Ask) (words : List (List ℕ)) (wrong : Option ℕ) (job : Job) → look_of ask words wrong ≡ Ok job → IsInRange job
+look_of-range ask words (Some before) job e = absurd (cc)
+look_of-range ask words None job e = asked_of-range ask _ words _ job refl e
+
+pub look_of-ranges : (r : Result Job ℕ) (ask : Ask) (words : List (List ℕ)) (wrong : Option ℕ) → r ≡ look_of ask words wrong → IfOk r IsInRange
+look_of-ranges (Ok job) ask words wrong e = look_of-range ask words wrong job (sym e)
+look_of-ranges (Err word) ask words wrong e = tt

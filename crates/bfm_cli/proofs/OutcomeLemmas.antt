@@ -1,22 +1,19 @@
 -- What follows from the outcome of a run over an input.
-use Rattle.std.proofs.Common.{◌≡◌, ◌≢◌, ℕ, ◌<◌, ◌≤◌, Bool, true, false, cond, List, [], length, take, nat_lt, Option, Some, None, IfSome, Result, Ok, Err, IsErr, ◌⊎◌, inl, inr, refl, sym, ap, ◌∙◌, subst, arith}
-use Rattle.std.proofs.lemmas.Bool.Decides.{nat_tests}
-use Rattle.bfm_base.specs.declared.cause.Refused.{Refused}
-use Rattle.bfm_base.specs.declared.limits.TheConstants.{USUAL_LIMIT}
+use Rattle.std.proofs.Common.{◌≡◌, ◌≢◌, ℕ, Bool, true, false, cond, List, take, Option, Some, None, IfSome, Result, Ok, Err, IsErr, ◌⊎◌, inl, inr, refl, sym, ap, ◌∙◌, subst}
 use Rattle.bfm_world.specs.Configuration.{IsValid}
 use Rattle.crossing_check.specs.declared.judgement.SetVerdict.{SetVerdict}
 use Rattle.sweep_run.specs.Sweep.{begun_with}
 use Rattle.sweep_run.proofs.SweepLemmas.{IsValid-state}
 use Rattle.bfm_commands.specs.Verdict.{verdict_of}
 use Rattle.bfm_commands.specs.declared.loaded.Loaded.{Loaded}
-use Rattle.bfm_session.specs.Loading.{Holds, Supply, ReadWhole}
+use Rattle.bfm_session.specs.Loading.{FileVerdict, accepted, refused, too_long, limited_verdict, Supply, ReadWhole}
 use Rattle.bfm_session.specs.Running.{is_too_far, last_mcs, last_reach, run_done, run_text}
 use Rattle.bfm_session.specs.declared.order.RunOrder.{RunOrder}
 use Rattle.bfm_cli.specs.Ending.{status_of}
-use Rattle.bfm_cli.specs.Outcome.{nothing, run_report, accepted_outcome, file_outcome, job_outcome}
+use Rattle.bfm_cli.specs.Outcome.{JudgesFile, JudgesFor, JudgesInput, nothing, run_report, limit_of, accepted_outcome, file_outcome, job_outcome}
 use Rattle.bfm_base.specs.Account.{Account}
 use Rattle.bfm_base.specs.Faults.{Rose}
-use Rattle.bfm_cli.specs.Promise.{Reads, IsAfterReading, DoesOver, HasValidRun, HasValidStates, Scene, Tells}
+use Rattle.bfm_cli.specs.Promise.{Holds, Reads, IsAfterReading, DoesOver, HasValidRun, HasValidStates, Scene, Tells}
 use Rattle.bfm_cli.specs.declared.job.Job.{Job}
 use Rattle.bfm_cli.specs.declared.job.Job.TheVariants.{Run, Look}
 use Rattle.bfm_cli.specs.declared.ending.Ending.{Ending}
@@ -26,32 +23,10 @@ use Rattle.bfm_cli.specs.declared.ending.Fault.TheVariants as faults
 use Rattle.bfm_cli.specs.declared.status.Status.{Status}
 use Rattle.bfm_cli.specs.declared.status.Status.TheVariants as statuses
 
--- a source has some bytes left, whether it tells them or not
-pub Holds-some : (left : Option (List ℕ)) → (bytes : List ℕ) × Holds left bytes
-Holds-some None = ([], tt)
-Holds-some (Some bytes) = (bytes, refl)
-
--- the outcome where the input is within the limit, and where it is not
-pub job_outcome-within : (job : Job) (bytes : List ℕ) (verdict : SetVerdict) → length bytes ≤ USUAL_LIMIT → job_outcome (Ok job) bytes verdict ≡ file_outcome job bytes verdict (verdict_of bytes)
-job_outcome-within job bytes verdict l =
-    let short : nat_lt USUAL_LIMIT (length bytes) ≡ false = grind (arith, nat_tests) in
-    ap (λ b. cond b (nothing (ends.TooLong USUAL_LIMIT)) (file_outcome job bytes verdict (verdict_of bytes))) short
-
-pub job_outcome-long : (job : Job) (bytes : List ℕ) (verdict : SetVerdict) → USUAL_LIMIT < length bytes → job_outcome (Ok job) bytes verdict ≡ nothing (ends.TooLong USUAL_LIMIT)
-job_outcome-long job bytes verdict l =
-    let long : nat_lt USUAL_LIMIT (length bytes) ≡ true = grind (arith, nat_tests) in
-    ap (λ b. cond b (nothing (ends.TooLong USUAL_LIMIT)) (file_outcome job bytes verdict (verdict_of bytes))) long
-
 -- the outcome of an accepted file
-pub job_outcome-loaded : (job : Job) (bytes kept : List ℕ) (loaded : Loaded) (verdict : SetVerdict) → length bytes ≤ USUAL_LIMIT → verdict_of bytes ≡ Ok loaded → kept ≡ take loaded.kept bytes
+pub job_outcome-loaded : (job : Job) (bytes kept : List ℕ) (loaded : Loaded) (verdict : SetVerdict) → limited_verdict (limit_of job) bytes ≡ accepted loaded → kept ≡ take loaded.kept bytes
     → job_outcome (Ok job) bytes verdict ≡ accepted_outcome job loaded kept verdict
-job_outcome-loaded job bytes kept loaded verdict l e k =
-    job_outcome-within job bytes verdict l ∙ (ap (file_outcome job bytes verdict) e ∙ ap (λ kept. accepted_outcome job loaded kept verdict) (sym k))
-
--- and of a refused one
-pub job_outcome-refused : (job : Job) (bytes : List ℕ) (refused : Refused) (verdict : SetVerdict) → length bytes ≤ USUAL_LIMIT → verdict_of bytes ≡ Err refused
-    → job_outcome (Ok job) bytes verdict ≡ nothing (ends.BadFile refused)
-job_outcome-refused job bytes refused verdict l e = job_outcome-within job bytes verdict l ∙ ap (file_outcome job bytes verdict) e
+job_outcome-loaded job bytes kept loaded verdict e k = ap (file_outcome job bytes verdict) e ∙ ap (λ kept. accepted_outcome job loaded kept verdict) (sym k)
 
 -- a job is never told as wrong words
 far_or_done : (far : Bool) (loaded : Loaded) (order : RunOrder) (kept : List ℕ) (verdict : SetVerdict)
@@ -61,18 +36,15 @@ far_or_done false loaded order kept verdict e = cc
 
 accepted_outcome-words : (job : Job) (loaded : Loaded) (kept : List ℕ) (verdict : SetVerdict) → status_of (accepted_outcome job loaded kept verdict).ending ≢ statuses.BadWords
 accepted_outcome-words (Run order) loaded kept verdict e = far_or_done (is_too_far loaded order) loaded order kept verdict e
-accepted_outcome-words (Look ask) loaded kept verdict e = cc
+accepted_outcome-words (Look ask limit) loaded kept verdict e = cc
 
-file_outcome-words : (job : Job) (bytes : List ℕ) (verdict : SetVerdict) (file : Result Loaded Refused) → status_of (file_outcome job bytes verdict file).ending ≢ statuses.BadWords
-file_outcome-words job bytes verdict (Err refused) e = cc
-file_outcome-words job bytes verdict (Ok loaded) e = accepted_outcome-words job loaded (take loaded.kept bytes) verdict e
-
-long_or_file : (long : Bool) (job : Job) (bytes : List ℕ) (verdict : SetVerdict) → status_of (cond long (nothing (ends.TooLong USUAL_LIMIT)) (file_outcome job bytes verdict (verdict_of bytes))).ending ≢ statuses.BadWords
-long_or_file true job bytes verdict e = cc
-long_or_file false job bytes verdict e = file_outcome-words job bytes verdict (verdict_of bytes) e
+file_outcome-words : (job : Job) (bytes : List ℕ) (verdict : SetVerdict) (file : FileVerdict) → status_of (file_outcome job bytes verdict file).ending ≢ statuses.BadWords
+file_outcome-words job bytes verdict (refused wrong) e = cc
+file_outcome-words job bytes verdict too_long e = cc
+file_outcome-words job bytes verdict (accepted loaded) e = accepted_outcome-words job loaded (take loaded.kept bytes) verdict e
 
 pub job_outcome-words : (job : Job) (bytes : List ℕ) (verdict : SetVerdict) → status_of (job_outcome (Ok job) bytes verdict).ending ≢ statuses.BadWords
-job_outcome-words job bytes verdict e = long_or_file (nat_lt USUAL_LIMIT (length bytes)) job bytes verdict e
+job_outcome-words job bytes verdict e = file_outcome-words job bytes verdict (limited_verdict (limit_of job) bytes) e
 
 -- no verdict on the set changes the status
 far_or_done-status : (far : Bool) (loaded : Loaded) (order : RunOrder) (kept : List ℕ) (a b : SetVerdict)
@@ -81,41 +53,39 @@ far_or_done-status : (far : Bool) (loaded : Loaded) (order : RunOrder) (kept : L
 far_or_done-status true loaded order kept a b = refl
 far_or_done-status false loaded order kept a b = refl
 
-file_outcome-status : (job : Job) (bytes : List ℕ) (a b : SetVerdict) (file : Result Loaded Refused) → status_of (file_outcome job bytes a file).ending ≡ status_of (file_outcome job bytes b file).ending
-file_outcome-status job bytes a b (Err refused) = refl
-file_outcome-status (Run order) bytes a b (Ok loaded) = far_or_done-status (is_too_far loaded order) loaded order (take loaded.kept bytes) a b
-file_outcome-status (Look ask) bytes a b (Ok loaded) = refl
-
-long_or_file-status : (long : Bool) (job : Job) (bytes : List ℕ) (a b : SetVerdict)
-    → status_of (cond long (nothing (ends.TooLong USUAL_LIMIT)) (file_outcome job bytes a (verdict_of bytes))).ending ≡ status_of (cond long (nothing (ends.TooLong USUAL_LIMIT)) (file_outcome job bytes b (verdict_of bytes))).ending
-long_or_file-status true job bytes a b = refl
-long_or_file-status false job bytes a b = file_outcome-status job bytes a b (verdict_of bytes)
+file_outcome-status : (job : Job) (bytes : List ℕ) (a b : SetVerdict) (file : FileVerdict) → status_of (file_outcome job bytes a file).ending ≡ status_of (file_outcome job bytes b file).ending
+file_outcome-status job bytes a b (refused wrong) = refl
+file_outcome-status job bytes a b too_long = refl
+file_outcome-status (Run order) bytes a b (accepted loaded) = far_or_done-status (is_too_far loaded order) loaded order (take loaded.kept bytes) a b
+file_outcome-status (Look ask limit) bytes a b (accepted loaded) = refl
 
 job_outcome-status : (job : Result Job ℕ) (bytes : List ℕ) (a b : SetVerdict) → status_of (job_outcome job bytes a).ending ≡ status_of (job_outcome job bytes b).ending
 job_outcome-status (Err word) bytes a b = refl
-job_outcome-status (Ok job) bytes a b = long_or_file-status (nat_lt USUAL_LIMIT (length bytes)) job bytes a b
+job_outcome-status (Ok job) bytes a b = file_outcome-status job bytes a b (limited_verdict (limit_of job) bytes)
 
 -- a run of an accepted file has valid states
 pub HasValidRun-loaded : (job : Job) (bytes : List ℕ) (loaded : Loaded) → IsValid loaded.world → verdict_of bytes ≡ Ok loaded → HasValidRun (Ok job) bytes
-HasValidRun-loaded (Look ask) bytes loaded valid e = tt
+HasValidRun-loaded (Look ask limit) bytes loaded valid e = tt
 HasValidRun-loaded (Run order) bytes loaded valid e =
     subst (HasValidStates order) (sym e) (λ count a. IsValid-state order.seed loaded.mcs count a (begun_with loaded.world) valid)
 
 -- what an ending behind the reading says of the input
-Reads-after : (ended : Result Ending Fault) (before after : Supply) (unread : Type 0) → IsAfterReading ended → ReadWhole before after → Reads ended before after unread
-Reads-after (Ok (ends.Ran done)) before after unread a r = r
-Reads-after (Ok ends.Answered) before after unread a r = r
-Reads-after (Ok (ends.BadWords word)) before after unread a r = absurd a
-Reads-after (Ok (ends.BadFile refused)) before after unread a r = absurd a
-Reads-after (Ok (ends.TooLong limit)) before after unread a r = absurd a
-Reads-after (Ok (ends.TooFar mcs reach)) before after unread a r = r
-Reads-after (Err faults.Read) before after unread a r = absurd a
-Reads-after (Err faults.Write) before after unread a r = r
-Reads-after (Err faults.Memory) before after unread a r = absurd a
+Reads-after : (ended : Result Ending Fault) (limit : ℕ) (taken : List ℕ) (before after : Supply) (unread : Type 0) → IsAfterReading ended → ReadWhole before after
+    → Reads ended limit taken before after unread
+Reads-after (Ok (ends.Ran done)) limit taken before after unread a r = r
+Reads-after (Ok ends.Answered) limit taken before after unread a r = r
+Reads-after (Ok (ends.BadWords word)) limit taken before after unread a r = absurd a
+Reads-after (Ok (ends.BadFile wrong)) limit taken before after unread a r = absurd a
+Reads-after (Ok (ends.TooLong beyond)) limit taken before after unread a r = absurd a
+Reads-after (Ok (ends.TooFar mcs reach)) limit taken before after unread a r = r
+Reads-after (Err faults.Read) limit taken before after unread a r = absurd a
+Reads-after (Err faults.Write) limit taken before after unread a r = r
+Reads-after (Err faults.Memory) limit taken before after unread a r = absurd a
 
-pub Reads-accepted : (ended : Result Ending Fault) (before after : Supply) (unread : Type 0) → IsAfterReading ended ⊎ (ended ≡ Err faults.Memory) → ReadWhole before after → Reads ended before after unread
-Reads-accepted ended before after unread (inl a) r = Reads-after ended before after unread a r
-Reads-accepted ended before after unread (inr e) r = subst (λ x. Reads x before after unread) (sym e) r.calm
+pub Reads-accepted : (ended : Result Ending Fault) (limit : ℕ) (taken : List ℕ) (before after : Supply) (unread : Type 0) → IsAfterReading ended ⊎ (ended ≡ Err faults.Memory) → ReadWhole before after
+    → Reads ended limit taken before after unread
+Reads-accepted ended limit taken before after unread (inl a) r = Reads-after ended limit taken before after unread a r
+Reads-accepted ended limit taken before after unread (inr e) r = subst (λ x. Reads x limit taken before after unread) (sym e) r.calm
 
 -- Wrong words come to nothing else.
 pub words-only : (ended : Result Ending Fault) (job : Result Job ℕ) (scene : Scene) → DoesOver ended job scene → IsErr job → (word : ℕ) × (ended ≡ Ok (ends.BadWords word))
@@ -147,7 +117,7 @@ status-told (Ok ending) job s status old new unreported verdict d t calm_in calm
       | inl told ↦ inl (told.0 ∙ (ap status_of d.does.agrees ∙ job_outcome-status job d.bytes d.verdict verdict))
       | inr failed ↦ absurd (calm_report failed.1.rose)
     ]
-status-told (Err faults.Read) job s status old new unreported verdict d t calm_in calm_out calm_report = absurd (calm_in d.does.reads)
+status-told (Err faults.Read) job s status old new unreported verdict d t calm_in calm_out calm_report = absurd (calm_in d.does.reads.0)
 status-told (Err faults.Write) job s status old new unreported verdict d t calm_in calm_out calm_report = absurd (calm_out d.does.writes.rose)
 status-told (Err faults.Memory) job s status old new unreported verdict d t calm_in calm_out calm_report =
     inr (t.0, λ e. d.does.agrees (job_outcome-status job d.bytes d.verdict verdict ∙ e))
@@ -157,3 +127,7 @@ pub outcome-told : (ended : Result Ending Fault) (job : Result Job ℕ) (s : Sce
     → IfSome s.input_before.left (λ bytes. (verdict : SetVerdict) → (status ≡ status_of (job_outcome job bytes verdict).ending) ⊎ ((status ≡ statuses.Memory) × (status_of (job_outcome job bytes verdict).ending ≢ statuses.BadWords)))
 outcome-told ended job s status old new unreported d t calm_in calm_out calm_report =
     IfSome-held s.input_before.left d.bytes _ d.left (λ verdict. status-told ended job s status old new unreported verdict d t calm_in calm_out calm_report)
+
+-- a verdict for an accepted file is one for its bytes
+pub JudgesInput-loaded : (job : Job) (bytes : List ℕ) (loaded : Loaded) (verdict : SetVerdict) → verdict_of bytes ≡ Ok loaded → JudgesFor job loaded verdict → JudgesInput (Ok job) bytes verdict
+JudgesInput-loaded job bytes loaded verdict e j = subst (JudgesFile (Ok job) verdict) (sym e) j

@@ -3,6 +3,7 @@ use Rattle.std.specs.Prelude.{ℕ, List, [], ◌∷◌, ◌++◌, codes, decimal
 use Rattle.std.specs.List.{concat}
 use Rattle.bfm_base.specs.Cause.{cause_number, cause_name}
 use Rattle.bfm_session.specs.CrossingText.{crossing_text}
+use Rattle.bfm_session.specs.NumberLines.{number_line}
 use Rattle.bfm_cli.specs.declared.ending.Ending.{Ending}
 use Rattle.bfm_cli.specs.declared.ending.Ending.TheVariants as ends
 use Rattle.bfm_cli.specs.declared.ending.Fault.{Fault}
@@ -40,28 +41,24 @@ code_of statuses.TooLong = 8
 code_of statuses.ReportFault = 9
 code_of statuses.TooFar = 10
 
--- a line of a report: a name and a number
-abbrev pub report_line : List ℕ → ℕ → List ℕ
-report_line name n = concat (name ∷ codes " " ∷ decimal n ∷ codes "\n" ∷ [])
-
 -- the text of the report; that of an answered question is empty
 abbrev pub report_of : Ending → List ℕ
 report_of (ends.Ran done) =
     concat (
-    report_line (codes "kept") done.kept
-    ∷ report_line (codes "frames") done.frames
-    ∷ report_line (codes "mcs") done.mcs
-    ∷ report_line (codes "skipped") done.skipped
-    ∷ report_line (codes "accepted") done.accepted
-    ∷ report_line (codes "links") 0
+    number_line (codes "kept") (done.kept ∷ [])
+    ∷ number_line (codes "frames") (done.frames ∷ [])
+    ∷ number_line (codes "mcs") (done.mcs ∷ [])
+    ∷ number_line (codes "skipped") (done.skipped ∷ [])
+    ∷ number_line (codes "accepted") (done.accepted ∷ [])
+    ∷ number_line (codes "links") (0 ∷ [])
     ∷ []
     )
     ++ crossing_text done.verdict
 report_of ends.Answered = []
-report_of (ends.BadWords word) = report_line (codes "words") word
+report_of (ends.BadWords word) = number_line (codes "words") (word ∷ [])
 report_of (ends.BadFile refused) =
     concat (codes "line " ∷ decimal refused.line ∷ codes " cause " ∷ decimal (cause_number refused.cause) ∷ codes " " ∷ cause_name refused.cause ∷ codes "\n" ∷ [])
-report_of (ends.TooLong limit) = report_line (codes "long") limit
+report_of (ends.TooLong limit) = number_line (codes "long") (limit ∷ [])
 report_of (ends.TooFar mcs reach) = concat (codes "far " ∷ decimal mcs ∷ codes " " ∷ decimal reach ∷ codes "\n" ∷ [])
 
 -- Want of memory makes no report.

@@ -1,15 +1,14 @@
 -- The job that a list of words asks for.
 use Rattle.std.specs.Prelude.{ℕ, ◌+◌, ◌-◌, ◌^◌, ◌≤◌, List, [], ◌∷◌, length, codes, Option, None, Some, Result, Ok, Err, if◌then◌else◌}
 use Rattle.std.specs.Str.{bytes_eq}
-use Rattle.bfm_base.specs.declared.limits.TheConstants.{MOST_FRAMES, MOST_SWEEPS}
+use Rattle.bfm_base.specs.declared.limits.TheConstants.{GREATEST_LIMIT, MOST_FRAMES, MOST_SWEEPS, USUAL_LIMIT}
 use Rattle.bfm_session.specs.declared.analysis.Ask.{Ask}
-use Rattle.bfm_session.specs.declared.analysis.Ask.TheVariants.{Check}
-use Rattle.bfm_session.specs.declared.order.RunOrder.{RunOrder}
+use Rattle.bfm_session.specs.declared.analysis.Ask.TheVariants.{Check, Info}
 use Rattle.bfm_cli.specs.Words.{Key, first_wrong, number_for}
 use Rattle.bfm_cli.specs.declared.job.Job.{Job}
 use Rattle.bfm_cli.specs.declared.job.Job.TheVariants.{Run, Look}
 
--- the keys of the job `run`
+-- the keys of the job `run` alone
 abbrev pub seed_key : Key
 seed_key = record { name = codes "seed"; least = 0; greatest = 2 ^ 64 - 1; usual = None }
 
@@ -19,35 +18,47 @@ frames_key = record { name = codes "frames"; least = 0; greatest = MOST_FRAMES; 
 abbrev pub every_key : Key
 every_key = record { name = codes "every"; least = 1; greatest = MOST_SWEEPS; usual = None }
 
+-- the key of each job that reads a file: how many bytes of it at most
+abbrev pub limit_key : Key
+limit_key = record { name = codes "limit"; least = 0; greatest = GREATEST_LIMIT; usual = Some USUAL_LIMIT }
+
 abbrev pub run_keys : List Key
-run_keys = seed_key ∷ frames_key ∷ every_key ∷ []
+run_keys = seed_key ∷ frames_key ∷ every_key ∷ limit_key ∷ []
+
+-- and those of an analysis
+abbrev pub look_keys : List Key
+look_keys = limit_key ∷ []
 
 -- a run, where each of its keys has a number; else the number of the word that is missing
-abbrev pub order_of : ℕ → Option ℕ → Option ℕ → Option ℕ → Result Job ℕ
-order_of missing (Some seed) (Some frames) (Some every) = Ok (Run (record { seed = seed; frames = frames; every = every }))
-order_of missing None frames every = Err missing
-order_of missing (Some seed) None every = Err missing
-order_of missing (Some seed) (Some frames) None = Err missing
+abbrev pub order_of : ℕ → Option ℕ → Option ℕ → Option ℕ → Option ℕ → Result Job ℕ
+order_of missing (Some seed) (Some frames) (Some every) (Some limit) = Ok (Run (record { seed = seed; frames = frames; every = every; limit = limit }))
+order_of missing seed frames every limit = Err missing
 
 -- The words behind the job's name, which is word 1: the first wrong one goes before one that is missing.
 abbrev pub run_of : List (List ℕ) → Option ℕ → Result Job ℕ
 run_of words (Some before) = Err (before + 2)
-run_of words None = order_of (length words + 2) (number_for seed_key words) (number_for frames_key words) (number_for every_key words)
+run_of words None =
+    order_of (length words + 2) (number_for seed_key words) (number_for frames_key words) (number_for every_key words) (number_for limit_key words)
 
--- an analysis, which has no keys: the first word behind its name is wrong
-abbrev pub look_of : Ask → List (List ℕ) → Result Job ℕ
-look_of ask [] = Ok (Look ask)
-look_of ask (word ∷ words) = Err 2
+abbrev pub asked_of : Ask → ℕ → Option ℕ → Result Job ℕ
+asked_of ask missing (Some limit) = Ok (Look ask limit)
+asked_of ask missing None = Err missing
+
+-- the same for an analysis
+abbrev pub look_of : Ask → List (List ℕ) → Option ℕ → Result Job ℕ
+look_of ask words (Some before) = Err (before + 2)
+look_of ask words None = asked_of ask (length words + 2) (number_for limit_key words)
 
 -- the job, or the number of the first wrong word
 abbrev pub job_of : List (List ℕ) → Result Job ℕ
 job_of [] = Err 1
 job_of (name ∷ words) =
     if bytes_eq name (codes "run") then run_of words (first_wrong run_keys [] words)
-    else if bytes_eq name (codes "check") then look_of Check words
+    else if bytes_eq name (codes "check") then look_of Check words (first_wrong look_keys [] words)
+    else if bytes_eq name (codes "info") then look_of Info words (first_wrong look_keys [] words)
     else Err 1
 
 -- the numbers of a job are in their ranges
 abbrev pub IsInRange : Job → Type 0
-IsInRange (Run order) = (order.frames ≤ MOST_FRAMES) × (1 ≤ order.every) × (order.every ≤ MOST_SWEEPS)
-IsInRange (Look ask) = Unit {0}
+IsInRange (Run order) = (order.frames ≤ MOST_FRAMES) × (1 ≤ order.every) × (order.every ≤ MOST_SWEEPS) × (order.limit ≤ GREATEST_LIMIT)
+IsInRange (Look ask limit) = limit ≤ GREATEST_LIMIT

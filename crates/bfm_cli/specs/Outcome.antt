@@ -1,15 +1,15 @@
 -- What words call for over the bytes of an input: a function of both, and of the verdict on the set of an accepted file.
-use Rattle.std.specs.Prelude.{ℕ, nat_lt, List, [], length, take, Option, None, Some, Result, Ok, Err, if◌then◌else◌}
+use Rattle.std.specs.Prelude.{ℕ, List, [], take, Option, None, Some, Result, Ok, Err, if◌then◌else◌}
 use Rattle.bfm_base.specs.declared.place.P3.{P3}
 use Rattle.bfm_base.specs.declared.place.Dir.{Dir}
 use Rattle.bfm_base.specs.declared.cause.Refused.{Refused}
-use Rattle.bfm_base.specs.declared.limits.TheConstants.{USUAL_LIMIT}
 use Rattle.crossing_check.specs.Verdict.{IsVerdict}
 use Rattle.crossing_check.specs.declared.judgement.SetVerdict.{SetVerdict}
 use Rattle.crossing_check.specs.declared.judgement.SetVerdict.TheVariants.{Free, Crossing}
 use Rattle.bfm_commands.specs.Verdict.{verdict_of}
 use Rattle.bfm_commands.specs.declared.loaded.Loaded.{Loaded}
-use Rattle.bfm_session.specs.Analysis.{answer_text}
+use Rattle.bfm_session.specs.Analysis.{Judges, answer_text}
+use Rattle.bfm_session.specs.Loading.{FileVerdict, accepted, refused, too_long, limited_verdict}
 use Rattle.bfm_session.specs.Running.{is_too_far, last_mcs, last_reach, run_done, run_text}
 use Rattle.bfm_session.specs.declared.order.RunOrder.{RunOrder}
 use Rattle.bfm_session.specs.declared.running.RunDone.{RunDone}
@@ -42,17 +42,22 @@ run_outcome order loaded kept verdict =
 -- what a job makes of an accepted file
 abbrev pub accepted_outcome : Job → Loaded → List ℕ → SetVerdict → Outcome
 accepted_outcome (Run order) loaded kept verdict = run_outcome order loaded kept verdict
-accepted_outcome (Look ask) loaded kept verdict = record { ending = Answered; output = answer_text ask verdict }
+accepted_outcome (Look ask limit) loaded kept verdict = record { ending = Answered; output = answer_text ask loaded verdict }
 
--- what it makes of an input, by the verdict on that
-abbrev pub file_outcome : Job → List ℕ → SetVerdict → Result Loaded Refused → Outcome
-file_outcome job input verdict (Err refused) = nothing (BadFile refused)
-file_outcome job input verdict (Ok loaded) = accepted_outcome job loaded (take loaded.kept input) verdict
+-- how many bytes of its input a job reads at most
+abbrev pub limit_of : Job → ℕ
+limit_of (Run order) = order.limit
+limit_of (Look ask limit) = limit
+
+-- what it makes of an input, by what that comes to within the limit
+abbrev pub file_outcome : Job → List ℕ → SetVerdict → FileVerdict → Outcome
+file_outcome job input verdict (refused wrong) = nothing (BadFile wrong)
+file_outcome job input verdict too_long = nothing (TooLong (limit_of job))
+file_outcome job input verdict (accepted loaded) = accepted_outcome job loaded (take loaded.kept input) verdict
 
 abbrev pub job_outcome : Result Job ℕ → List ℕ → SetVerdict → Outcome
 job_outcome (Err word) input verdict = nothing (BadWords word)
-job_outcome (Ok job) input verdict =
-    if nat_lt USUAL_LIMIT (length input) then nothing (TooLong USUAL_LIMIT) else file_outcome job input verdict (verdict_of input)
+job_outcome (Ok job) input verdict = file_outcome job input verdict (limited_verdict (limit_of job) input)
 
 -- the outcome of words over input bytes, where this is the verdict on the file's set
 abbrev pub outcome_of : List (List ℕ) → List ℕ → SetVerdict → Outcome
@@ -60,11 +65,24 @@ outcome_of words input verdict = job_outcome (job_of words) input verdict
 
 -- the verdict is one on the set of an accepted file; of a refused one it may be any
 abbrev pub JudgesSet : SetVerdict → Result Loaded Refused → Type 0
-JudgesSet verdict (Err refused) = Unit {0}
+JudgesSet verdict (Err wrong) = Unit {0}
 JudgesSet verdict (Ok loaded) = IsVerdict loaded.world.set verdict
 
 abbrev pub JudgesSetOf : List ℕ → SetVerdict → Type 0
 JudgesSetOf input verdict = JudgesSet verdict (verdict_of input)
+
+-- the verdict that a job tells of an accepted file is one on its set; for a job that tells none it may be any
+abbrev pub JudgesFor : Job → Loaded → SetVerdict → Type 0
+JudgesFor (Run order) loaded verdict = IsVerdict loaded.world.set verdict
+JudgesFor (Look ask limit) loaded verdict = Judges ask loaded.world.set verdict
+
+abbrev pub JudgesFile : Result Job ℕ → SetVerdict → Result Loaded Refused → Type 0
+JudgesFile (Err word) verdict file = Unit {0}
+JudgesFile (Ok job) verdict (Err wrong) = Unit {0}
+JudgesFile (Ok job) verdict (Ok loaded) = JudgesFor job loaded verdict
+
+abbrev pub JudgesInput : Result Job ℕ → List ℕ → SetVerdict → Type 0
+JudgesInput job input verdict = JudgesFile job verdict (verdict_of input)
 
 -- a verdict but for its weights, which alone are free: b, the direction, c and e of the first crossing
 abbrev pub first_crossing : SetVerdict → Option (P3 × Dir × P3 × P3)

@@ -1,20 +1,17 @@
 -- What the program promises: what it did to its input, its output and its report.
-use Rattle.std.specs.Prelude.{◌≡◌, ◌≢◌, ℕ, ◌⊎◌, List, Result, Ok, Err}
-use Rattle.std.specs.Io.KnownBytes.{IsAtEnd}
+use Rattle.std.specs.Prelude.{◌≡◌, ◌≢◌, ℕ, ◌⊎◌, List, Option, None, Some, Result, Ok, Err}
 use Rattle.bfm_base.specs.Account.{Account, Delivered, TookPrefix}
 use Rattle.bfm_base.specs.Faults.{Rose}
-use Rattle.bfm_base.specs.declared.cause.Cause.TheVariants.{NoFrame}
 use Rattle.bfm_base.specs.declared.cause.Refused.{Refused}
 use Rattle.bfm_world.specs.Configuration.{IsValid}
-use Rattle.crossing_check.specs.Verdict.{IsVerdict}
 use Rattle.crossing_check.specs.declared.judgement.SetVerdict.{SetVerdict}
 use Rattle.bfm_commands.specs.Verdict.{verdict_of}
 use Rattle.bfm_commands.specs.declared.loaded.Loaded.{Loaded}
 use Rattle.sweep_run.specs.Sweep.{state_at, begun_with}
-use Rattle.bfm_session.specs.Loading.{Supply, Holds, ReadWhole}
+use Rattle.bfm_session.specs.Loading.{Supply, IsOpen, IsShown, ReadWhole, Takes, limited_verdict, too_long}
 use Rattle.bfm_session.specs.declared.order.RunOrder.{RunOrder}
 use Rattle.bfm_cli.specs.Ending.{status_of, ended_status, ended_report}
-use Rattle.bfm_cli.specs.Outcome.{Outcome, JudgesSetOf, accepted_outcome, job_outcome}
+use Rattle.bfm_cli.specs.Outcome.{Outcome, JudgesFor, JudgesInput, accepted_outcome, job_outcome, limit_of}
 use Rattle.bfm_cli.specs.declared.job.Job.{Job}
 use Rattle.bfm_cli.specs.declared.job.Job.TheVariants.{Run, Look}
 use Rattle.bfm_cli.specs.declared.ending.Ending.{Ending}
@@ -52,17 +49,28 @@ Agrees (Err faults.Read) outcome = status_of outcome.ending ≢ statuses.BadWord
 Agrees (Err faults.Write) outcome = status_of outcome.ending ≡ statuses.Done
 Agrees (Err faults.Memory) outcome = status_of outcome.ending ≢ statuses.BadWords
 
--- What the job did to its input. `unread` says that the input is as it was.
-abbrev pub Reads : Result Ending Fault → Supply → Supply → Type 0 → Type 0
-Reads (Ok (ends.Ran done)) before after unread = ReadWhole before after
-Reads (Ok ends.Answered) before after unread = ReadWhole before after
-Reads (Ok (ends.BadWords word)) before after unread = unread
-Reads (Ok (ends.BadFile refused)) before after unread = (after.faults ≡ before.faults) × (refused.cause ≡ NoFrame → IsAtEnd after.left)
-Reads (Ok (ends.TooLong limit)) before after unread = after.faults ≡ before.faults
-Reads (Ok (ends.TooFar mcs reach)) before after unread = ReadWhole before after
-Reads (Err faults.Read) before after unread = Rose before.faults after.faults
-Reads (Err faults.Write) before after unread = ReadWhole before after
-Reads (Err faults.Memory) before after unread = after.faults ≡ before.faults
+-- a source has these bytes left, as far as it tells
+abbrev pub Holds : Option (List ℕ) → List ℕ → Type 0
+Holds None bytes = Unit {0}
+Holds (Some left) bytes = left ≡ bytes
+
+-- how many bytes are read at most: none for words that ask for no job
+abbrev pub limit_in : Result Job ℕ → ℕ
+limit_in (Err word) = 0
+limit_in (Ok job) = limit_of job
+
+-- What the job did to its input, of which it took these bytes. A wrong line and a file that is too long show in them, and
+-- a call that fails comes before either. `unread` says that the input is as it was.
+abbrev pub Reads : Result Ending Fault → ℕ → List ℕ → Supply → Supply → Type 0 → Type 0
+Reads (Ok (ends.Ran done)) limit taken before after unread = ReadWhole before after
+Reads (Ok ends.Answered) limit taken before after unread = ReadWhole before after
+Reads (Ok (ends.BadWords word)) limit taken before after unread = unread
+Reads (Ok (ends.BadFile wrong)) limit taken before after unread = (after.faults ≡ before.faults) × IsShown wrong limit taken after.left
+Reads (Ok (ends.TooLong beyond)) limit taken before after unread = (after.faults ≡ before.faults) × (limited_verdict limit taken ≡ too_long)
+Reads (Ok (ends.TooFar mcs reach)) limit taken before after unread = ReadWhole before after
+Reads (Err faults.Read) limit taken before after unread = Rose before.faults after.faults × IsOpen limit taken
+Reads (Err faults.Write) limit taken before after unread = ReadWhole before after
+Reads (Err faults.Memory) limit taken before after unread = after.faults ≡ before.faults
 
 -- What the job did to its output, which is to take this text. `unwritten` says that the output is as it was.
 abbrev pub Writes : Result Ending Fault → List ℕ → Account → Account → Type 0 → Type 0
@@ -76,23 +84,24 @@ Writes (Err faults.Read) text before after unwritten = unwritten
 Writes (Err faults.Write) text before after unwritten = TookPrefix before after text
 Writes (Err faults.Memory) text before after unwritten = unwritten
 
--- all that a job did, where this is its outcome
-pub record Does (ended : Result Ending Fault) (outcome : Outcome) (scene : Scene) : Type 0 where
+-- all that a job did which took these bytes of its input, where this is its outcome
+pub record Does (ended : Result Ending Fault) (outcome : Outcome) (limit : ℕ) (taken : List ℕ) (scene : Scene) : Type 0 where
   pub agrees : Agrees ended outcome
-  pub reads : Reads ended scene.input_before scene.input_after scene.unread
+  pub takes : Takes limit scene.input_before scene.input_after taken
+  pub reads : Reads ended limit taken scene.input_before scene.input_after scene.unread
   pub writes : Writes ended outcome.output scene.output_before scene.output_after scene.unwritten
 
 -- Each state of a run of an accepted file, between its sweeps and within them, is a valid configuration: all
 -- monomers are within the walls, no two overlap, and each bond has a vector of the set.
 abbrev pub HasValidStates : RunOrder → Result Loaded Refused → Type 0
-HasValidStates order (Err refused) = Unit {0}
+HasValidStates order (Err wrong) = Unit {0}
 HasValidStates order (Ok loaded) =
     (count a : ℕ) → IsValid (state_at order.seed loaded.mcs count a (begun_with loaded.world)).world
 
 abbrev pub HasValidRun : Result Job ℕ → List ℕ → Type 0
 HasValidRun (Err word) bytes = Unit {0}
 HasValidRun (Ok (Run order)) bytes = HasValidStates order (verdict_of bytes)
-HasValidRun (Ok (Look ask)) bytes = Unit {0}
+HasValidRun (Ok (Look ask limit)) bytes = Unit {0}
 
 -- what comes only where the output was called
 abbrev pub IsBegun : Result Ending Fault → Type 0
@@ -118,22 +127,23 @@ IsAfterReading (Err faults.Read) = ⊥
 IsAfterReading (Err faults.Write) = Unit {0}
 IsAfterReading (Err faults.Memory) = ⊥
 
--- What a job did with an accepted file, of which this part is kept. Where it was begun, the verdict is one on the file's set.
+-- What a job did with an accepted file, of which this part is kept. Where it was begun, the verdict is one that it may tell.
 pub record DoesAccepted (ended : Result Ending Fault) (job : Job) (loaded : Loaded) (kept : List ℕ) (before after : Account) (unwritten : Type 0) : Type 0 where
   pub verdict : SetVerdict
-  pub judged : IsBegun ended → IsVerdict loaded.world.set verdict
+  pub judged : IsBegun ended → JudgesFor job loaded verdict
   pub agrees : Agrees ended (accepted_outcome job loaded kept verdict)
   pub read : IsAfterReading ended ⊎ (ended ≡ Err faults.Memory)
   pub writes : Writes ended (accepted_outcome job loaded kept verdict).output before after unwritten
 
--- All that was done for a job, over the bytes that the input had left. Where it was begun, the verdict is one on the file's
--- set. Each state of a run of an accepted file is valid.
+-- All that was done for a job, over the bytes that the input had left, of which some were taken. Where it was begun, the
+-- verdict is one that it may tell. Each state of a run of an accepted file is valid.
 pub record DoesOver (ended : Result Ending Fault) (job : Result Job ℕ) (scene : Scene) : Type 0 where
   pub bytes : List ℕ
   pub left : Holds scene.input_before.left bytes
+  pub taken : List ℕ
   pub verdict : SetVerdict
-  pub judged : IsBegun ended → JudgesSetOf bytes verdict
-  pub does : Does ended (job_outcome job bytes verdict) scene
+  pub judged : IsBegun ended → JudgesInput job bytes verdict
+  pub does : Does ended (job_outcome job bytes verdict) (limit_in job) taken scene
   pub states : IsAfterReading ended → HasValidRun job bytes
 
 -- the report was made and flushed, or a prefix of it until a call failed

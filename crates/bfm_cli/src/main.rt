@@ -8,6 +8,8 @@
 
 mod ending;
 mod job;
+#[cfg(test)]
+mod reading_tests;
 mod report;
 mod status;
 #[cfg(test)]

@@ -1,14 +1,13 @@
 ghost use Rattle.std.specs.Prelude.{◌≡◌};
-ghost use Rattle.std.specs.List.{flat_map};
 ghost use Rattle.bfm_base.specs.Account.{Delivers, Sends};
-ghost use Rattle.bfm_cli.specs.Ending.{ended_report, fault_report, report_line, report_of};
+ghost use Rattle.bfm_cli.specs.Ending.{ended_report, fault_report, report_of};
 ghost use Rattle.bfm_cli.specs.Promise.{Tells};
 ghost use Rattle.bfm_cli.specs.declared.ending.Ending.TheVariants as ends;
 
 use crate::ending::{Ending, Fault, RunReport};
 use crate::status::Status;
 use bfm_base::{Failed, Refused, Sink, send, send_pieces};
-use bfm_session::crossing_lines;
+use bfm_session::{crossing_lines, number_lines};
 use itoa::Buffer;
 
 /// Reports on how a job ended, and answers the status: that of the ending or of the fault, or a
@@ -59,9 +58,9 @@ fn write_ending<P: Sink>(ending: &Ending, report: &mut P) -> Result<(), Failed>
     match ending {
         Ending::Ran(done) => write_run(done, report),
         Ending::Answered => Ok(()),
-        Ending::BadWords(word) => report_line(report, b"words", *word),
+        Ending::BadWords(word) => number_lines(report, &[(b"words", &[*word])]),
         Ending::BadFile(refused) => write_refused(refused, report),
-        Ending::TooLong(limit) => report_line(report, b"long", *limit),
+        Ending::TooLong(limit) => number_lines(report, &[(b"long", &[*limit])]),
         Ending::TooFar { mcs, reach } => write_far(*mcs, *reach, report),
     }
 }
@@ -69,15 +68,15 @@ fn write_ending<P: Sink>(ending: &Ending, report: &mut P) -> Result<(), Failed>
 fn write_run<P: Sink>(done: &RunReport, report: &mut P) -> Result<(), Failed>
     ensures { Sends result (P.account report.old) (P.account report.new) (report_of (ends.Ran done.now)) }
 {
-    report_lines(
+    number_lines(
         report,
         &[
-            (b"kept", done.kept),
-            (b"frames", done.frames),
-            (b"mcs", done.mcs),
-            (b"skipped", done.skipped),
-            (b"accepted", done.accepted),
-            (b"links", 0),
+            (b"kept", &[done.kept]),
+            (b"frames", &[done.frames]),
+            (b"mcs", &[done.mcs]),
+            (b"skipped", &[done.skipped]),
+            (b"accepted", &[done.accepted]),
+            (b"links", &[0]),
         ],
     )?;
     crossing_lines(&done.verdict, report)
@@ -103,22 +102,4 @@ fn write_far<P: Sink>(mcs: u128, reach: u128, report: &mut P) -> Result<(), Fail
     let last = last.format(mcs).as_bytes();
     let far = far.format(reach).as_bytes();
     send_pieces(report, &[b"far ", last, b" ", far, b"\n"])
-}
-
-/// Writes the lines of a report, each a name and a number.
-fn report_lines<S: Sink>(sink: &mut S, lines: &[(&[u8], u64)]) -> Result<(), Failed>
-    ensures { Sends result (S.account sink.old) (S.account sink.new) (flat_map (λ line. report_line line.0.now line.1) lines.now) }
-{
-    for (name, n) in lines {
-        report_line(sink, name, *n)?;
-    }
-    Ok(())
-}
-
-/// Writes a line of a report: a name and a number.
-fn report_line<S: Sink>(sink: &mut S, name: &[u8], n: u64) -> Result<(), Failed>
-    ensures { Sends result (S.account sink.old) (S.account sink.new) (report_line name.now n) }
-{
-    let mut number = Buffer::new();
-    send_pieces(sink, &[name, b" ", number.format(n).as_bytes(), b"\n"])
 }

@@ -22,7 +22,7 @@ fn file_of(
 }
 
 /// The file of one monomer at (3, 3, 3), of 104 bytes.
-const ONE: &str =
+pub(crate) const ONE: &str =
     "!number_of_monomers=1\n!box_x=8\n!box_y=8\n!box_z=8\n!periodic_x=1\n!periodic_y=1\n!periodic_z=1\n!mcs=0\n3 3 3\n";
 
 /// What the first job adds to that file, and what it reports.
@@ -34,7 +34,7 @@ const REPORT: &str = "kept 104\nframes 1\nmcs 1\nskipped 0\naccepted 1\nlinks 0\
 const WORDS: &str = "run seed=42 frames=1 every=1";
 
 /// Runs the tool over memory, and answers its status.
-fn run_over(
+pub(crate) fn run_over(
     alloc: Global,
     words: &str,
     input: &mut MemSource,
@@ -133,7 +133,7 @@ fn worked_cases(rt: HostRuntime) -> Result<(), Fail> {
 }
 
 // The first file with carriage returns, a version, a command that is not known, and 153 bytes.
-const FOREIGN: &str =
+pub(crate) const FOREIGN: &str =
     "#!version=2.0\r\n!number_of_monomers=1\r\n!box_x=8\r\n!box_y=8\r\n!box_z=8\r\n\
     !periodic_x=1\r\n!periodic_y=1\r\n!periodic_z=1\r\n!my_interaction 1 2 0.5\r\n!mcs=0\r\n3 3 3\r\n";
 
@@ -159,7 +159,7 @@ fn what_stands_behind_the_last_whole_frame_is_left_out(rt: HostRuntime) -> Resul
 }
 
 /// The text of a file in a periodic box of this side, with lines of its header before the frame.
-fn file_with(
+pub(crate) fn file_with(
     alloc: Global,
     monomers: &str,
     side: &str,
@@ -172,7 +172,7 @@ fn file_with(
 }
 
 // A set of two vectors, and sets that are wrong.
-const PAIR: &str = "!set_of_bondvectors\n2 0 0:32\n-2 0 0:33\n";
+pub(crate) const PAIR: &str = "!set_of_bondvectors\n2 0 0:32\n-2 0 0:33\n";
 
 const UNPAIRED: &str = "!set_of_bondvectors\n2 0 0:17\n";
 
@@ -182,8 +182,10 @@ const TWICE: &str = "!set_of_bondvectors\n2 0 0:17\n2 0 0:17\n";
 
 // (monomers, lines before the frame, the frame, what is written after the file, the report)
 #[rattlefmt::skip]
-const HEADERS: [(&str, &str, &str, Option<&str>, &str); 5] = [
+const HEADERS: [(&str, &str, &str, Option<&str>, &str); 7] = [
     ("2", PAIR, "0 0 0  \n", Some("\n!mcs=1\n0 0 0  \n"), "kept 145\nframes 1\nmcs 1\nskipped 0\naccepted 0\nlinks 0\ncrossing free\n"),
+    ("2", PAIR, "0 0 0\n2 0 0\n!add_bonds\n1 2\n!mcs=1\n0 0 0\n2 0 0\n", Some("\n!mcs=2\n0 0 0  \n"), "kept 183\nframes 1\nmcs 2\nskipped 0\naccepted 0\nlinks 0\ncrossing free\n"),
+    ("1", "!bfm_fixed\n1\n", "3 3 3\n", Some("\n!mcs=1\n3 3 3\n"), "kept 117\nframes 1\nmcs 1\nskipped 0\naccepted 0\nlinks 0\ncrossing free\n"),
     ("1", "", "5 5 5 \n", Some("\n!mcs=1\n5 6 5\n"), "kept 105\nframes 1\nmcs 1\nskipped 0\naccepted 1\nlinks 0\ncrossing free\n"),
     ("1", UNPAIRED, "3 3 3\n", None, "line 10 cause 5 NotSymmetric\n"),
     ("1", TOO_SHORT, "3 3 3\n", None, "line 9 cause 3 BadVector\n"),
@@ -212,7 +214,7 @@ fn sets_of_vectors_and_identifiers(rt: HostRuntime) -> Result<(), Fail> {
 }
 
 /// The entries of the usual set of bond vectors, a line each.
-fn usual_entries(alloc: Global) -> Result<String, AllocError> {
+pub(crate) fn usual_entries(alloc: Global) -> Result<String, AllocError> {
     let set = BondSet::usual(alloc)?;
     let mut entries = String::new(alloc);
     for k in 0..set.len() {
@@ -350,13 +352,14 @@ fn chains_move_as_another_hand_computed(rt: HostRuntime) -> Result<(), Fail> {
 
 // (monomers, whether y is periodic, time, positions, status, report)
 #[rattlefmt::skip]
-const REFUSALS: [(&str, &str, &str, &str, Status, &str); 7] = [
+const REFUSALS: [(&str, &str, &str, &str, Status, &str); 8] = [
     ("1", "1", "0", "3 3 3", Status::BadFile, "line 9 cause 18 NoFrame\n"),
     ("2", "1", "0", "0 0 0\n", Status::BadFile, "line 10 cause 18 NoFrame\n"),
     ("262145", "1", "0", "0 0 0\n", Status::BadFile, "line 1 cause 2 OutOfLimit\n"),
     ("1", "2", "0", "0 0 0\n", Status::BadFile, "line 6 cause 2 OutOfLimit\n"),
     ("1", "1", "0", "0 0\n", Status::BadFile, "line 9 cause 1 BadLine\n"),
     ("1", "1", "0", "0 0 0\n\n!mcs=1\nx\n", Status::BadFile, "line 12 cause 1 BadLine\n"),
+    ("1", "1", "5", "3 3 3\n!mcs=4\n", Status::BadFile, "line 10 cause 11 McsOrder\n"),
     ("1", "1", "0", "-17592186044416 0 0\n", Status::TooFar, "far 1 17592186044417\n"),
 ];
 
@@ -387,6 +390,13 @@ fn wrong_words_leave_the_input_unread(rt: HostRuntime) -> Result<(), Fail> {
         ("check seed=42", 2),
         ("check check", 2),
         ("checks", 1),
+        ("info limit=10 limit=10", 3),
+        ("info limit=1073741825", 2),
+        ("info limit=-1", 2),
+        ("info info", 2),
+        ("check limit=", 2),
+        ("run seed=42 frames=1 every=1 limit=1073741825", 5),
+        ("run limit=5 seed=42 frames=1", 5),
     ];
     for (words, place) in table {
         let mut input = MemSource::new(rt.alloc(), ONE.as_bytes(), 1, &[])?;

@@ -1,13 +1,13 @@
 ghost use Rattle.std.specs.Prelude.{◌≡◌, ◌≢◌, ◌≤◌, ◌⊎◌, ℕ, List, Result, map, string_bytes, IsErr, IfOk, IfSome, Ok, true};
 ghost use Rattle.std.specs.Io.KnownBytes.{Appends, IsAtEnd};
 ghost use Rattle.bfm_base.specs.Faults.{Rose};
-ghost use Rattle.bfm_base.specs.declared.limits.TheConstants.{GREATEST_MCS, MOST_FRAMES, MOST_SWEEPS};
+ghost use Rattle.bfm_base.specs.declared.limits.TheConstants.{GREATEST_LIMIT, GREATEST_MCS, MOST_FRAMES, MOST_SWEEPS};
 ghost use Rattle.crossing_check.specs.declared.judgement.SetVerdict.{SetVerdict};
 ghost use Rattle.bfm_commands.specs.Verdict.{verdict_of};
 ghost use Rattle.bfm_session.specs.Loading.{supply};
 ghost use Rattle.bfm_cli.specs.Job.{job_of, IsInRange};
 ghost use Rattle.bfm_cli.specs.Ending.{status_of};
-ghost use Rattle.bfm_cli.specs.Outcome.{JudgesSetOf, first_crossing, outcome_of};
+ghost use Rattle.bfm_cli.specs.Outcome.{JudgesInput, JudgesSetOf, first_crossing, limit_of, outcome_of};
 ghost use Rattle.bfm_cli.specs.Promise.{DoesAccepted, DoesOver, Tells, HasValidRun, scene};
 ghost use Rattle.bfm_cli.specs.declared.ending.Ending.{Ending};
 ghost use Rattle.bfm_cli.specs.declared.ending.Fault.{Fault};
@@ -16,7 +16,6 @@ use crate::ending::{Ending, Fault, RunReport};
 use crate::job::{Job, job_of};
 use crate::report::tell;
 use crate::status::Status;
-use bfm_base::limits::USUAL_LIMIT;
 use bfm_base::{Sink, Source};
 use bfm_commands::Loaded;
 use bfm_session::{Ask, AskFault, LoadFault, RunFault, RunOrder, analyse, load, run};
@@ -45,7 +44,7 @@ pub fn run_tool<I: Source, O: Sink, P: Sink>(
         (result ≡ status_of outcome.ending) ⊎ ((result ≡ Status.Memory) × (status_of outcome.ending ≢ Status.BadWords))) }
 
     // Done means that all of it was done: the whole input was read, the output is whole and flushed.
-    ensures done { result ≡ Status.Done → IfSome (I.left input.old) (λ bytes. (verdict : SetVerdict) × JudgesSetOf bytes verdict
+    ensures done { result ≡ Status.Done → IfSome (I.left input.old) (λ bytes. (verdict : SetVerdict) × JudgesInput (job_of (map string_bytes words.now)) bytes verdict
         × let outcome = outcome_of (map string_bytes words.now) bytes verdict in
         (status_of outcome.ending ≡ Status.Done) × Appends (O.account output.old).taken (O.account output.new).taken outcome.output) }
     ensures done_reads_all { result ≡ Status.Done → IsAtEnd (I.left input.new) }
@@ -94,12 +93,25 @@ fn run_job<I: Source, O: Sink>(
         (scene (supply (I.left input.old) (I.faults input.old)) (supply (I.left input.new) (I.faults input.new)) (input.new ≡ input.old)
         (O.account output.old) (O.account output.new) (output.new ≡ output.old)) }
 {
-    match load(alloc, input, USUAL_LIMIT) {
+    let limit = limit_of(job);
+    match load(alloc, input, limit) {
         Ok((loaded, kept)) => do_accepted(alloc, job, loaded, &kept, output),
         Err(LoadFault::Refused(refused)) => Ok(Ending::BadFile(refused)),
-        Err(LoadFault::TooLong) => Ok(Ending::TooLong(USUAL_LIMIT)),
+        Err(LoadFault::TooLong) => Ok(Ending::TooLong(limit)),
         Err(LoadFault::ReadFault) => Err(Fault::Read),
         Err(LoadFault::Memory) => Err(Fault::Memory),
+    }
+}
+
+/// How many bytes of its input a job reads at most, 0 to 2^30.
+fn limit_of(job: &Job) -> u64
+    requires { IsInRange job.now }
+    ensures value { result ≡ limit_of job.now }
+    ensures range { result ≤ GREATEST_LIMIT }
+{
+    match job {
+        Job::Run(order) => order.limit,
+        Job::Look { limit, .. } => *limit,
     }
 }
 
@@ -117,7 +129,7 @@ fn do_accepted<O: Sink>(
 {
     match job {
         Job::Run(order) => run_accepted(order, loaded, kept, output),
-        Job::Look { ask } => look_at_accepted(alloc, ask, &loaded, output),
+        Job::Look { ask, .. } => look_at_accepted(alloc, ask, &loaded, output),
     }
 }
 
@@ -128,7 +140,7 @@ fn look_at_accepted<O: Sink>(
     loaded: &Loaded,
     output: &mut O,
 ) -> Result<Ending, Fault>
-    ensures { (kept : List ℕ) → DoesAccepted result (Job.Look ask.now) loaded.now kept (O.account output.old) (O.account output.new) (output.new ≡ output.old) }
+    ensures { (kept : List ℕ) (limit : ℕ) → DoesAccepted result (Job.Look ask.now limit) loaded.now kept (O.account output.old) (O.account output.new) (output.new ≡ output.old) }
 {
     match analyse(alloc, loaded, ask, output) {
         Ok(()) => Ok(Ending::Answered),

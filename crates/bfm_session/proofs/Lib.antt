@@ -1,2 +1,4 @@
-mod TextLemmas
+mod InfoLemmas
+pub mod LimitLemmas
 mod LoadLemmas
+mod TextLemmas

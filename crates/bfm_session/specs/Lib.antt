@@ -1,4 +1,7 @@
 pub mod Analysis
 pub mod CrossingText
+pub mod Info
 pub mod Loading
+pub mod NumberLines
+pub mod Pieces
 pub mod Running

@@ -1,11 +1,12 @@
 ghost use Rattle.std.specs.Prelude.{◌≡◌};
 ghost use Rattle.bfm_base.specs.Account.{Delivers};
-ghost use Rattle.crossing_check.specs.Verdict.{IsVerdict};
-ghost use Rattle.bfm_session.specs.Analysis.{Answers, answer_text};
+ghost use Rattle.bfm_session.specs.Analysis.{Answers, Judges, answer_text};
 ghost use Rattle.bfm_session.specs.CrossingText.{crossing_text};
+ghost use Rattle.bfm_session.specs.Info.{info_text};
 ghost use Rattle.crossing_check.specs.declared.judgement.SetVerdict.{SetVerdict};
 
 use crate::crossing::crossing_lines;
+use crate::info::info_lines;
 use bfm_base::{Failed, Sink};
 use bfm_commands::Loaded;
 use crossing_check::{SetVerdict, verdict};
@@ -17,6 +18,8 @@ use thiserror::Error;
 pub enum Ask {
     /// Whether its set of bond vectors allows a crossing move.
     Check,
+    /// What it holds, in numbers.
+    Info,
 }
 
 /// Why an analysis was not written to its end.
@@ -37,14 +40,16 @@ pub fn analyse<O: Sink>(
     ask: &Ask,
     output: &mut O,
 ) -> Result<(), AskFault>
-    ensures { (verdict : SetVerdict) × IsVerdict loaded.now.world.set verdict
-        × Answers result (answer_text ask.now verdict) (O.account output.old) (O.account output.new) (output.new ≡ output.old) }
+    ensures { (verdict : SetVerdict) × Judges ask.now loaded.now.world.set verdict
+        × Answers result (answer_text ask.now loaded.now verdict) (O.account output.old) (O.account output.new) (output.new ≡ output.old) }
 {
-    match ask {
-        Ask::Check => match write_verdict(&verdict(loaded.world.set()), output) {
-            Ok(()) => Ok(()),
-            Err(_) => Err(AskFault::WriteFault),
-        },
+    let written = match ask {
+        Ask::Check => write_verdict(&verdict(loaded.world.set()), output),
+        Ask::Info => write_info(loaded, output),
+    };
+    match written {
+        Ok(()) => Ok(()),
+        Err(_) => Err(AskFault::WriteFault),
     }
 }
 
@@ -53,5 +58,13 @@ fn write_verdict<O: Sink>(verdict: &SetVerdict, output: &mut O) -> Result<(), Fa
     ensures { Delivers result (O.account output.old) (O.account output.new) (crossing_text verdict.now) }
 {
     crossing_lines(verdict, output)?;
+    output.flush()
+}
+
+/// Writes the lines of what a file holds and flushes them.
+fn write_info<O: Sink>(loaded: &Loaded, output: &mut O) -> Result<(), Failed>
+    ensures { Delivers result (O.account output.old) (O.account output.new) (info_text loaded.now) }
+{
+    info_lines(loaded, output)?;
     output.flush()
 }

@@ -1,19 +1,22 @@
 //! A session with one file: reading it from a source, and running or analysing what it holds into a
 //! sink. It stands on `bfm_commands` for the reading, on `bfm_writer` for the writing, on `sweep_run`
 //! for the sweeps, on `plain_move` for the moves and on `crossing_check` for the verdict on the set.
-//! It promises that `load` answers what the file is worth, over all bytes of the source, that `run`
-//! writes the kept part of the file and then the groups of the run, and that `analyse` writes its
-//! answer; both flush, or say why not.
+//! It promises that `load` judges the bytes in order and stops where they decide, that `run` writes
+//! the kept part of the file and then the groups of the run, and that `analyse` writes its answer;
+//! both flush, or say why not.
 #![tactic(auto)]
 
 mod analysis;
 mod crossing;
+mod info;
+mod lines;
 mod loading;
 mod order;
 mod running;
 
 pub use analysis::{Ask, AskFault, analyse};
 pub use crossing::crossing_lines;
+pub use lines::number_lines;
 pub use loading::{LoadFault, load};
 pub use order::RunOrder;
 pub use running::{RunDone, RunFault, run};
