@@ -1,7 +1,9 @@
 pub mod BondLemmas
+pub mod ChainLemmas
 pub mod OverlapLemmas
 pub mod PartLemmas
 pub mod ReachLemmas
 pub mod SiteLemmas
+pub mod StartLemmas
 pub mod ValidLemmas
 pub mod VectorLemmas

@@ -1,3 +1,4 @@
 pub mod Bonds
+pub mod Chains
 pub mod Configuration
 pub mod Draft

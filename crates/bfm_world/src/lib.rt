@@ -9,6 +9,7 @@
 mod bonds;
 mod build_fault;
 mod builder;
+mod chains;
 mod engine;
 mod overlaps;
 mod parts;
@@ -20,6 +21,7 @@ mod world;
 pub use bonds::Bonds;
 pub use build_fault::BuildFault;
 pub use builder::WorldBuilder;
+pub use chains::join_chains;
 pub use engine::Engine;
 pub use overlaps::are_apart;
 pub use room::{is_clear, is_within_walls, keeps_bonds, may_bond};

@@ -1,4 +1,3 @@
-pub mod ChainLemmas
 pub mod MeltLemmas
 pub mod PlaceLemmas
 pub mod WayLemmas

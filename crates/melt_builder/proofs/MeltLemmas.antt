@@ -8,10 +8,11 @@ use Rattle.bond_set.specs.UsualSet.{usual_set}
 use Rattle.bfm_world.specs.Bonds.{are_bonded}
 use Rattle.bfm_world.specs.Configuration.{Configuration, may_bond, position_at, position_of}
 use Rattle.bfm_world.specs.Draft.{Draft, begun, with_positions, with_bonds}
-use Rattle.melt_builder.specs.Chains.{chain_bonds, AreSuccessive}
-use Rattle.melt_builder.specs.Melt.{place_of, melt_positions, melt_world, IsNextCell}
-use Rattle.melt_builder.proofs.ChainLemmas.{are_bonded-chain_bonds}
-use Rattle.melt_builder.proofs.PlaceLemmas.{length-melt_positions, place_of-next, may_bond-next}
+use Rattle.bfm_world.specs.Chains.{chain_bonds, AreSuccessive, LiesTwoOn}
+use Rattle.melt_builder.specs.Melt.{place_of, melt_positions, melt_world}
+use Rattle.bfm_world.proofs.ChainLemmas.{are_bonded-chain_bonds}
+use Rattle.bfm_world.proofs.StartLemmas.{may_bond-two}
+use Rattle.melt_builder.proofs.PlaceLemmas.{length-melt_positions, place_of-next}
 
 abbrev pub placed : Shape → ℕ → Draft
 placed shape n = with_positions (begun shape usual_set n) (melt_positions shape n)
@@ -34,22 +35,22 @@ length-joined d shape n size e = ap (λ (c : Draft). length c.world.positions) e
 position_at-melt : (shape : Shape) (n k : ℕ) → k < n → position_at (melt_positions shape n) k ≡ place_of shape k
 position_at-melt shape n k l = get_or-map-range_with_len (place_of shape) 0 n k k (record { x = pos 0; y = pos 0; z = pos 0 }) l (omega arith)
 
-next_of : (shape : Shape) (n k : ℕ) → IsBox shape → k + 1 < n → IsNextCell (position_at (melt_positions shape n) k) (position_at (melt_positions shape n) (k + 1))
+next_of : (shape : Shape) (n k : ℕ) → IsBox shape → k + 1 < n → LiesTwoOn (position_at (melt_positions shape n) k) (position_at (melt_positions shape n) (k + 1))
 next_of shape n k box l =
-    subst (λ p. IsNextCell p (position_at (melt_positions shape n) (k + 1))) (sym (position_at-melt shape n k (omega arith)))
-    (subst (λ q. IsNextCell (place_of shape k) q) (sym (position_at-melt shape n (k + 1) l)) (place_of-next shape box k))
+    subst (λ p. LiesTwoOn p (position_at (melt_positions shape n) (k + 1))) (sym (position_at-melt shape n k (omega arith)))
+    (subst (λ q. LiesTwoOn (place_of shape k) q) (sym (position_at-melt shape n (k + 1) l)) (place_of-next shape box k))
 
 -- a bond may run from each monomer to the next
 pub may_bond-placed : (d : Draft) (shape : Shape) (n k : ℕ) → IsBox shape → d ≡ placed shape n → k + 1 < n
     → may_bond d.world.shape d.world.set (position_of d.world k) (position_of d.world (k + 1)) ≡ true
 may_bond-placed d shape n k box e l =
-    subst (λ (c : Draft). may_bond c.world.shape c.world.set (position_of c.world k) (position_of c.world (k + 1)) ≡ true) (sym e) (may_bond-next shape box _ _ (next_of shape n k box l))
+    subst (λ (c : Draft). may_bond c.world.shape c.world.set (position_of c.world k) (position_of c.world (k + 1)) ≡ true) (sym e) (may_bond-two shape _ _ box (next_of shape n k box l))
 
 -- what holds of the bonds and the positions of a melt
 pub bonded-melt : (w : Configuration) (shape : Shape) (chains size i j : ℕ) → w ≡ melt_world shape chains size → i < chains * size → (are_bonded w.bonds i j ≡ true) ↔ AreSuccessive size i j
 bonded-melt w shape chains size i j e l =
     subst (λ (c : Configuration). (are_bonded c.bonds i j ≡ true) ↔ AreSuccessive size i j) (sym e) (are_bonded-chain_bonds size (chains * size) i j l)
 
-pub next-melt : (w : Configuration) (shape : Shape) (chains size k : ℕ) → IsBox shape → w ≡ melt_world shape chains size → k + 1 < chains * size → IsNextCell (position_of w k) (position_of w (k + 1))
+pub next-melt : (w : Configuration) (shape : Shape) (chains size k : ℕ) → IsBox shape → w ≡ melt_world shape chains size → k + 1 < chains * size → LiesTwoOn (position_of w k) (position_of w (k + 1))
 next-melt w shape chains size k box e l =
-    subst (λ (c : Configuration). IsNextCell (position_of c k) (position_of c (k + 1))) (sym e) (next_of shape (chains * size) k box l)
+    subst (λ (c : Configuration). LiesTwoOn (position_of c k) (position_of c (k + 1))) (sym e) (next_of shape (chains * size) k box l)

@@ -1,16 +1,14 @@
 -- Melts of linear chains. The box is cut into cells of two sites a side, one way leads to and fro through all cells,
 -- and the monomers stand along it, one in each cell. Cells and monomers are counted from 0.
-use Rattle.std.specs.Prelude.{◌≡◌, ℕ, ◌-◌, ◌*◌, ◌/◌, ◌%◌, nat_eq, pos, List, map, if◌then◌else◌}
+use Rattle.std.specs.Prelude.{ℕ, ◌-◌, ◌*◌, ◌/◌, ◌%◌, nat_eq, pos, List, map, if◌then◌else◌}
 use Rattle.std.specs.List.{range_with_len}
 use Rattle.bfm_base.specs.declared.place.P3.{P3}
-use Rattle.bfm_base.specs.declared.place.Dir.{Dir}
 use Rattle.bfm_base.specs.declared.place.Shape.{Shape}
-use Rattle.bfm_base.specs.Direction.{step_of}
-use Rattle.bfm_geom.specs.Difference.{side_of, plus}
+use Rattle.bfm_geom.specs.Difference.{side_of}
 use Rattle.bond_set.specs.UsualSet.{usual_set}
 use Rattle.bfm_world.specs.Configuration.{Configuration}
 use Rattle.bfm_world.specs.Draft.{begun, with_positions, with_bonds}
-use Rattle.melt_builder.specs.Chains.{chain_bonds}
+use Rattle.bfm_world.specs.Chains.{chain_bonds}
 
 -- how many cells there are along an axis, and in all
 abbrev pub cells_along : Shape → ℕ → ℕ
@@ -44,7 +42,3 @@ abbrev pub melt_world : Shape → ℕ → ℕ → Configuration
 melt_world shape chains length =
     let n = chains * length in
     (with_bonds (with_positions (begun shape usual_set n) (melt_positions shape n)) (chain_bonds length n)).world
-
--- from p, q lies one cell further along a direction
-abbrev pub IsNextCell : P3 → P3 → Type 0
-IsNextCell p q = (dir : Dir) × (q ≡ plus (plus p (step_of dir)) (step_of dir))

@@ -7,7 +7,6 @@
 #![tactic(auto)]
 
 mod cells;
-mod chains;
 mod melts;
 #[cfg(test)]
 mod tests;

@@ -2,15 +2,14 @@ ghost use Rattle.std.specs.Prelude.{◌≡◌, ◌↔◌, ℕ, ◌+◌, ◌*◌,
 ghost use Rattle.bfm_base.specs.declared.limits.TheConstants.{MOST_MONOMERS};
 ghost use Rattle.bfm_geom.specs.Difference.{IsBox};
 ghost use Rattle.bfm_world.specs.Bonds.{are_bonded};
+ghost use Rattle.bfm_world.specs.Chains.{AreSuccessive, LiesTwoOn};
 ghost use Rattle.bfm_world.specs.Configuration.{IsValid, position_of};
 ghost use Rattle.bfm_world.specs.declared.build_fault.BuildFault.{BuildFault};
-ghost use Rattle.melt_builder.specs.Chains.{AreSuccessive};
-ghost use Rattle.melt_builder.specs.Melt.{cells_in, melt_world, IsNextCell};
+ghost use Rattle.melt_builder.specs.Melt.{cells_in, melt_world};
 
 use crate::cells::{cells_in, place_all};
-use crate::chains::join_chains;
 use bfm_base::Shape;
-use bfm_world::{BuildFault, World, WorldBuilder};
+use bfm_world::{BuildFault, World, WorldBuilder, join_chains};
 use bond_set::BondSet;
 use std::alloc::Global;
 
@@ -31,7 +30,7 @@ pub fn melt(alloc: Global, shape: Shape, chains: u32, length: u32) -> Result<Wor
     // Who is bonded to whom, and how each monomer lies to the one before it.
     ensures bonded { IfOk result (λ world. (i j : ℕ) → i < chains * length
         → (are_bonded world.bonds i j ≡ true) ↔ AreSuccessive length i j) }
-    ensures steps { IfOk result (λ world. (k : ℕ) → k + 1 < chains * length → IsNextCell (position_of world k) (position_of world (k + 1))) }
+    ensures steps { IfOk result (λ world. (k : ℕ) → k + 1 < chains * length → LiesTwoOn (position_of world k) (position_of world (k + 1))) }
 {
     let need = chains * length;
     let have = cells_in(&shape);

@@ -1,7 +1,7 @@
 use Rattle.std.proofs.Common.{◌≡◌, ◌*◌, ◌∙◌, ap, arith, rules}
 use Rattle.bfm_world.specs.Draft.{Draft}
 use Rattle.melt_builder.specs.Melt.{melt_world}
-use Rattle.melt_builder.proofs.ChainLemmas.{goes_on-last}
+use Rattle.bfm_world.proofs.ChainLemmas.{goes_on-last}
 use Rattle.melt_builder.proofs.MeltLemmas.{placed, all_placed, all_joined, length-placed, length-joined, may_bond-placed, bonded-melt, next-melt}
 use Rattle.melt_builder.proofs.melts.melt.Goals as goal
 
@@ -22,7 +22,7 @@ join_chains-requires-clause-steps c =
     let all : c.place_all.new.builder ≡ placed c.args.shape n =
     all_placed c.in_ok-builder.builder c.place_all.new.builder c.args.shape c.in_ok-set.set n c.in_ok-set.ensures.order c.in_ok-builder.ensures c.place_all.ensures in
     let count : c.place_all.new.builder.count ≡ n = ap (λ (d : Draft). d.count) all in
-    λ k l. may_bond-placed c.place_all.new.builder c.args.shape n k c.requires.box_limits all (omega arith)
+    λ k l same. may_bond-placed c.place_all.new.builder c.args.shape n k c.requires.box_limits all (omega arith)
 
 pub finish-requires : goal.finish-requires
 finish-requires c =

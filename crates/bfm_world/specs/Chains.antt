@@ -2,6 +2,10 @@
 -- successive monomers of a chain are bonded. Monomers and chains are counted from 0.
 use Rattle.std.specs.Prelude.{◌≡◌, ℕ, zero, suc, ◌+◌, ◌/◌, Bool, nat_eq, List, [], ◌∷◌, ◌++◌, map, ◌⊎◌, if◌then◌else◌}
 use Rattle.std.specs.List.{range_with_len}
+use Rattle.bfm_base.specs.declared.place.P3.{P3}
+use Rattle.bfm_base.specs.declared.place.Dir.{Dir}
+use Rattle.bfm_base.specs.Direction.{step_of}
+use Rattle.bfm_geom.specs.Difference.{plus}
 
 -- the next monomer is of the same chain
 abbrev pub goes_on : ℕ → ℕ → Bool
@@ -28,3 +32,7 @@ chain_bonds length n = map (chain_neighbours length) (range_with_len 0 n)
 pub record AreSuccessive (length i j : ℕ) : Type 0 where
   pub chain : i / length ≡ j / length
   pub beside : (j ≡ i + 1) ⊎ (i ≡ j + 1)
+
+-- from p, q lies two units further along a direction: as near as two monomers come, and a bond vector of the usual set
+abbrev pub LiesTwoOn : P3 → P3 → Type 0
+LiesTwoOn p q = (dir : Dir) × (q ≡ plus (plus p (step_of dir)) (step_of dir))

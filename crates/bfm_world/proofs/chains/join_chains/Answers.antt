@@ -1,17 +1,19 @@
 use Rattle.std.proofs.Common.{◌≡◌, ◌+◌, ◌-◌, ◌/◌, ◌<◌, ◌∙◌, sym, subst, ap, arith, true, false, Ok, is_ok}
 use Rattle.bfm_world.specs.Configuration.{may_bond, position_of}
 use Rattle.bfm_world.specs.Draft.{join_answer}
-use Rattle.melt_builder.specs.Chains.{goes_on}
-use Rattle.melt_builder.proofs.ChainLemmas.{chain_same, chain_ends, JoinedSoFar-none, join_answer-next, JoinedSoFar-joined, JoinedSoFar-apart, JoinedSoFar-all}
-use Rattle.melt_builder.proofs.chains.join_chains.Goals.{then-next-chain_length, else-next-chain_length}
-use Rattle.melt_builder.proofs.chains.join_chains.Goals as goal
+use Rattle.bfm_world.specs.Chains.{goes_on}
+use Rattle.bfm_world.proofs.ChainLemmas.{chain_same, chain_ends, JoinedSoFar-none, join_answer-next, JoinedSoFar-joined, JoinedSoFar-apart, JoinedSoFar-all}
+use Rattle.bfm_world.proofs.chains.join_chains.Goals.{then-next-chain_length, else-next-chain_length}
+use Rattle.bfm_world.proofs.chains.join_chains.Goals as goal
 
 pub unwrap-requires : goal.unwrap-requires
 unwrap-requires c =
     let start = c.args.builder.now in
     let m = c.loop-next.next in
     let e : m - 1 + 1 ≡ m = omega arith in
-    let step = subst (λ k. may_bond start.world.shape start.world.set (position_of start.world (m - 1)) (position_of start.world k) ≡ true) e (c.requires.steps (m - 1) (omega arith)) in
+    let size = c.args.chain_length in
+    let same : goes_on size (m - 1) ≡ true = chain_same size (m - 1) (c.if-next-chain_length.true ∙ ap (λ n. n / size) (sym e)) in
+    let step = subst (λ k. may_bond start.world.shape start.world.set (position_of start.world (m - 1)) (position_of start.world k) ≡ true) e (c.requires.steps (m - 1) (omega arith) same) in
     ap is_ok (c.join.ensures.answer ∙ join_answer-next start c.loop-next.builder c.args.chain_length (m - 1) m c.loop-next.invariant e (omega arith) c.requires.placed step)
 
 pub loop-next-preserved : goal.loop-next-preserved
@@ -23,7 +25,8 @@ loop-next-preserved c =
     let inside : m < start.count = omega arith in
     elim c.if-next-chain_length.branch [
       | then-next-chain_length w ↦
-          let step = subst (λ k. may_bond start.world.shape start.world.set (position_of start.world (m - 1)) (position_of start.world k) ≡ true) e (c.requires.steps (m - 1) (omega arith)) in
+          let same : goes_on size (m - 1) ≡ true = chain_same size (m - 1) (w.if-next-chain_length.true ∙ ap (λ n. n / size) (sym e)) in
+          let step = subst (λ k. may_bond start.world.shape start.world.set (position_of start.world (m - 1)) (position_of start.world k) ≡ true) e (c.requires.steps (m - 1) (omega arith) same) in
           let answer : join_answer c.loop-next.builder (m - 1) m ≡ Ok true = join_answer-next start c.loop-next.builder size (m - 1) m c.loop-next.invariant e inside c.requires.placed step in
           let same : goes_on size (m - 1) ≡ true = chain_same size (m - 1) (w.if-next-chain_length.true ∙ ap (λ n. n / size) (sym e)) in
           JoinedSoFar-joined start c.loop-next.builder size (m - 1) m c.loop-next.invariant e inside c.if-next-chain_length.builder same (w.builder-is ∙ w.join.ensures.exact (w.join.ensures.answer ∙ answer))

@@ -13,7 +13,7 @@ use Rattle.bfm_world.specs.Bonds.{neighbours_of, are_bonded, is_full, put, with_
 use Rattle.bfm_world.specs.Configuration.{may_bond, may_reach, position_of}
 use Rattle.bfm_world.specs.Draft.{Draft, with_bonds, is_pair, may_join, join_answer}
 use Rattle.bfm_world.proofs.BondLemmas.{has, test-eq, row_first, row_second, row_other}
-use Rattle.melt_builder.specs.Chains.{goes_on, before_in_chain, chain_neighbours, chain_bonds, AreSuccessive}
+use Rattle.bfm_world.specs.Chains.{goes_on, before_in_chain, chain_neighbours, chain_bonds, AreSuccessive}
 
 -- ---- who is bonded to whom
 has_one : (p q j : ℕ) (b c : Bool) → has j (cond b (p ∷ []) [] ++ cond c (q ∷ []) []) ≡ true → ((b ≡ true) × (p ≡ j)) ⊎ ((c ≡ true) × (q ≡ j))
