@@ -1,0 +1,2 @@
+pub mod BrushLemmas
+pub mod FootLemmas
