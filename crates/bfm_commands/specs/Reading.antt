@@ -10,7 +10,7 @@ use Rattle.bfm_base.specs.declared.cause.ReadStop.TheVariants as stops
 use Rattle.bfm_base.specs.declared.limits.TheConstants.{WORLD_REACH, GREATEST_MCS, GREATEST_LABEL, GREATEST_VALENCE}
 use Rattle.bond_set.specs.BondSet.{first_unpaired, vector_of}
 use Rattle.bfm_world.specs.Configuration.{IsSound, IsValid, reach_of}
-use Rattle.bfm_world.specs.Draft.{Draft, begun, with_positions, with_bonds}
+use Rattle.bfm_world.specs.Draft.{Draft, begun, with_positions, with_bonds, with_fixed_list}
 use Rattle.bfm_lexer.specs.Cutter as cutters
 use Rattle.bfm_commands.specs.History.{History, has_begun, owner_of, given_of, shape_in, count_in, set_of, pairs_of, labels_of, valences_of, fixed_of, said_of_each, fixed_of_each, listed_bonds, with_added, with_removed, string_positions, line_positions, given_in, entry_of, with_vector, with_listed, with_said, with_range, mcs_of, is_first_frame, draft_of, last_whole, frames_of, first_positions, skipped_of, given_as}
 use Rattle.bfm_commands.specs.Causes.{is_box_too_large, some_missing, is_beyond, some_range_beyond, some_fixed_beyond, is_overfull, vector_cause, bond_cause, range_cause, fixed_cause, added_cause, removed_cause, frame_cause, least}
@@ -84,16 +84,14 @@ begin_fault header =
     ∷ []
     )
 
--- a draft with these labels, with these valences, and with these marks of fixed monomers
+-- a draft with these labels, and with these valences
 abbrev pub with_labels : Draft → List ℕ → Draft
 with_labels draft labels = record draft { world = record draft.world { labels = labels } }
 
 abbrev pub with_valences : Draft → List ℕ → Draft
 with_valences draft valences = record draft { world = record draft.world { valences = valences } }
 
-abbrev pub with_fixed_list : Draft → List Bool → Draft
-with_fixed_list draft fixed = record draft { world = record draft.world { fixed = fixed } }
-
+-- the same with these marks of fixed monomers
 abbrev pub with_marks : Draft → List ℕ → List ℕ → List Bool → Draft
 with_marks draft labels valences fixed = with_fixed_list (with_valences (with_labels draft labels) valences) fixed
 

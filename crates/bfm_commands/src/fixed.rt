@@ -2,7 +2,8 @@ ghost use Rattle.std.specs.Prelude.{◌≡◌, ℕ, ◌+◌, ◌/◌, ◌≤◌,
 ghost use Rattle.bfm_commands.specs.Causes.{fixed_cause, some_fixed_beyond};
 ghost use Rattle.bfm_commands.specs.Forms.{monomers_entry};
 ghost use Rattle.bfm_commands.specs.History.{given_in, with_range, is_in_some, fixed_of_each};
-ghost use Rattle.bfm_commands.specs.Reading.{IsFault, with_fixed_list};
+ghost use Rattle.bfm_commands.specs.Reading.{IsFault};
+ghost use Rattle.bfm_world.specs.Draft.{with_fixed_list};
 ghost use Rattle.bfm_commands.specs.Strokes.{stroke_over};
 ghost use Rattle.bfm_commands.specs.declared.strokes.TheConstants.{BLOCK};
 

@@ -38,6 +38,10 @@ with_valence draft i valence = record draft { world = record draft.world { valen
 abbrev pub with_fixed : Draft → ℕ → Draft
 with_fixed draft i = record draft { world = record draft.world { fixed = slice_set draft.world.fixed i true } }
 
+-- a draft with these marks of fixed monomers
+abbrev pub with_fixed_list : Draft → List Bool → Draft
+with_fixed_list draft fixed = record draft { world = record draft.world { fixed = fixed } }
+
 -- the sites of the box, where those are taken that the placed monomers cover, and no others
 pub record IsFilled (w : Configuration) (sites : Sites) : Type 0 where
   pub shape : sites.shape ≡ w.shape

@@ -1,2 +1,3 @@
 pub mod BrushLemmas
+pub mod FixLemmas
 pub mod FootLemmas

@@ -1,13 +1,13 @@
 -- Brushes: upright chains of one length, whose feet stand on the lower wall of the z axis in rows along x, as far apart
 -- as the spacing says. Chains and monomers are counted from 0, and the foot is the first monomer of its chain.
-use Rattle.std.specs.Prelude.{ℕ, ◌*◌, ◌/◌, ◌%◌, pos, List, map}
+use Rattle.std.specs.Prelude.{ℕ, ◌*◌, ◌/◌, ◌%◌, Bool, nat_eq, pos, List, map}
 use Rattle.std.specs.List.{range_with_len}
 use Rattle.bfm_base.specs.declared.place.P3.{P3}
 use Rattle.bfm_base.specs.declared.place.Shape.{Shape}
 use Rattle.bfm_geom.specs.Difference.{side_of}
 use Rattle.bond_set.specs.UsualSet.{usual_set}
 use Rattle.bfm_world.specs.Configuration.{Configuration}
-use Rattle.bfm_world.specs.Draft.{begun, with_positions, with_bonds}
+use Rattle.bfm_world.specs.Draft.{begun, with_positions, with_bonds, with_fixed_list}
 use Rattle.bfm_world.specs.Chains.{chain_bonds}
 
 -- how many feet there are along an axis, and in all
@@ -35,8 +35,16 @@ place_of shape spacing length k =
 abbrev pub brush_positions : Shape → ℕ → ℕ → ℕ → List P3
 brush_positions shape spacing length n = map (place_of shape spacing length) (range_with_len 0 n)
 
+-- The first monomer of a chain is its foot. Of the first n monomers the feet are fixed.
+abbrev pub is_foot : ℕ → ℕ → Bool
+is_foot length k = nat_eq (k % length) 0
+
+abbrev pub feet_marks : ℕ → ℕ → List Bool
+feet_marks length n = map (is_foot length) (range_with_len 0 n)
+
 -- a chain of this length on each foot
 abbrev pub brush_world : Shape → ℕ → ℕ → Configuration
 brush_world shape spacing length =
     let n = feet_in shape spacing * length in
-    (with_bonds (with_positions (begun shape usual_set n) (brush_positions shape spacing length n)) (chain_bonds length n)).world
+    let chains = with_bonds (with_positions (begun shape usual_set n) (brush_positions shape spacing length n)) (chain_bonds length n) in
+    (with_fixed_list chains (feet_marks length n)).world

@@ -3,18 +3,19 @@ ghost use Rattle.bfm_base.specs.declared.limits.TheConstants.{MOST_MONOMERS};
 ghost use Rattle.bfm_geom.specs.Difference.{IsBox, side_of, is_periodic};
 ghost use Rattle.bfm_world.specs.Bonds.{are_bonded};
 ghost use Rattle.bfm_world.specs.Chains.{AreSuccessive};
-ghost use Rattle.bfm_world.specs.Configuration.{IsValid};
+ghost use Rattle.bfm_world.specs.Configuration.{IsValid, is_fixed};
 ghost use Rattle.bfm_world.specs.declared.build_fault.BuildFault.{BuildFault};
-ghost use Rattle.brush_builder.specs.Brush.{feet_in, room_above, brush_world};
+ghost use Rattle.brush_builder.specs.Brush.{feet_in, room_above, brush_world, is_foot};
 
-use crate::feet::{feet_in, place_all};
+use crate::feet::{feet_in, fix_feet, place_all};
 use bfm_base::Shape;
 use bfm_world::{BuildFault, World, WorldBuilder, join_chains};
 use bond_set::BondSet;
 use std::alloc::Global;
 
 /// Builds a brush of upright chains of so many monomers each (at most 2^18 monomers in all), with
-/// the usual set, on feet that stand so far apart (2 to 512 lattice units). It is refused with
+/// the usual set, on feet that stand so far apart (2 to 512 lattice units) and are fixed. It is
+/// refused with
 /// `NoRoom` where a chain has more monomers than fit upright between the walls of the z axis.
 pub fn brush(alloc: Global, shape: Shape, spacing: u32, length: u32) -> Result<World, BuildFault>
     requires box_limits { IsBox shape }
@@ -28,6 +29,9 @@ pub fn brush(alloc: Global, shape: Shape, spacing: u32, length: u32) -> Result<W
     ensures room { length ≤ room_above shape → IfErr result (λ fault. fault ≡ BuildFault.Memory) }
     ensures world { IfOk result (λ world. world ≡ brush_world shape spacing length) }
     ensures valid { IfOk result IsValid }
+
+    // Which monomers are fixed: the first of each chain.
+    ensures feet { IfOk result (λ world. (i : ℕ) → i < feet_in shape spacing * length → is_fixed world i ≡ is_foot length i) }
 
     // Who is bonded to whom.
     ensures bonded { IfOk result (λ world. (i j : ℕ) → i < feet_in shape spacing * length
@@ -46,5 +50,6 @@ pub fn brush(alloc: Global, shape: Shape, spacing: u32, length: u32) -> Result<W
     let mut builder = WorldBuilder::new(alloc, shape, set, n)?;
     place_all(&mut builder, spacing, length);
     join_chains(&mut builder, length);
+    fix_feet(&mut builder, length);
     Ok(builder.finish())
 }

@@ -1,8 +1,8 @@
-ghost use Rattle.std.specs.Prelude.{◌≡◌, ℕ, ◌*◌, ◌^◌, ◌<◌, ◌≤◌, pos, []};
+ghost use Rattle.std.specs.Prelude.{◌≡◌, ℕ, ◌*◌, ◌^◌, ◌<◌, ◌≤◌, false, pos, [], replicate};
 ghost use Rattle.bfm_geom.specs.Difference.{IsBox, side_of};
 ghost use Rattle.bfm_world.specs.Bonds.{neighbours_of};
-ghost use Rattle.bfm_world.specs.Draft.{with_positions};
-ghost use Rattle.brush_builder.specs.Brush.{feet_along, feet_in, room_above, place_of, brush_positions};
+ghost use Rattle.bfm_world.specs.Draft.{with_positions, with_fixed_list};
+ghost use Rattle.brush_builder.specs.Brush.{feet_along, feet_in, room_above, place_of, brush_positions, feet_marks};
 
 use bfm_base::{P3, Shape};
 use bfm_world::WorldBuilder;
@@ -60,5 +60,18 @@ pub(crate) fn place_all(builder: &mut WorldBuilder, spacing: u32, length: u32)
         builder
             .place(place_of(&shape, spacing, length, monomer))
             .unwrap();
+    }
+}
+
+/// Fixes the first monomer of each chain, where none is fixed yet.
+pub(crate) fn fix_feet(builder: &mut WorldBuilder, length: u32)
+    requires chain { 0 < length }
+    requires none { builder.old.world.fixed ≡ replicate builder.old.count false }
+    ensures { builder.new ≡ with_fixed_list builder.old (feet_marks length builder.old.count) }
+{
+    for monomer in 0..builder.count() {
+        if monomer % length == 0 {
+            builder.fix(monomer);
+        }
     }
 }

@@ -31,6 +31,10 @@ fn chains_stand_upright_on_their_feet(rt: HostRuntime) -> Result<(), Fail> {
     }
     assert!(rt; world.bonded(0, 1) && world.bonded(14, 15) && !world.bonded(3, 4));
     assert!(rt; world.neighbours(7) == [6].as_slice());
+    for monomer in 0..world.len() {
+        let foot = [0, 4, 8, 12].contains(&monomer);
+        assert_eq!(rt; world.fixed(monomer), foot, "monomer {monomer}");
+    }
     let room = BuildFault::NoRoom { need: 5, have: 4 };
     assert_eq!(rt; brush(rt.alloc(), BOX, 4, 5).err(), Some(room));
     Ok(())

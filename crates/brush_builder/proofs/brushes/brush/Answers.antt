@@ -1,8 +1,9 @@
-use Rattle.std.proofs.Common.{◌≡◌, ◌*◌, ◌≤◌, ◌∙◌, ap, arith, rules}
+use Rattle.std.proofs.Common.{◌≡◌, ◌*◌, ◌≤◌, ◌∙◌, ap, sym, length, arith, rules}
 use Rattle.bfm_world.specs.Draft.{Draft}
 use Rattle.bfm_world.proofs.ChainLemmas.{goes_on-last}
 use Rattle.brush_builder.specs.Brush.{room_above, brush_world}
 use Rattle.brush_builder.proofs.BrushLemmas.{placed, all_placed, length-placed, length-joined, may_bond-placed, bonded-brush}
+use Rattle.brush_builder.proofs.FixLemmas.{fixed-brush}
 use Rattle.brush_builder.proofs.FootLemmas.{some_monomers}
 use Rattle.brush_builder.proofs.brushes.brush.Goals as goal
 
@@ -30,9 +31,15 @@ join_chains-requires-clause-steps c =
 pub finish-requires : goal.finish-requires
 finish-requires c =
     let all = all_placed c.in_ok-builder.builder c.place_all.new.builder c.args.shape c.in_ok-set.set c.args.spacing c.args.length (c.feet_in.result * c.args.length) c.in_ok-set.ensures.order c.in_ok-builder.ensures c.place_all.ensures in
-    length-joined c.place_all.new.builder c.join_chains.new.builder _ c.join_chains.ensures (length-placed c.place_all.new.builder c.args.shape c.args.spacing c.args.length (c.feet_in.result * c.args.length) all)
+    let joined = length-joined c.place_all.new.builder c.join_chains.new.builder _ c.join_chains.ensures (length-placed c.place_all.new.builder c.args.shape c.args.spacing c.args.length (c.feet_in.result * c.args.length) all) in
+    ap (λ (d : Draft). length d.world.positions) c.fix_feet.ensures ∙ (joined ∙ ap (λ (d : Draft). d.count) (sym c.fix_feet.ensures))
 
 pub returns-clause-bonded : goal.returns-clause-bonded
 returns-clause-bonded c =
     let e : c.finish.result ≡ brush_world c.args.shape c.args.spacing c.args.length = search rules in
     λ i j l. bonded-brush c.finish.result c.args.shape c.args.spacing c.args.length i j e l
+
+pub returns-clause-feet : goal.returns-clause-feet
+returns-clause-feet c =
+    let e : c.finish.result ≡ brush_world c.args.shape c.args.spacing c.args.length = search rules in
+    λ i l. fixed-brush c.finish.result c.args.shape c.args.spacing c.args.length i e l

@@ -2,7 +2,7 @@ use Rattle.std.proofs.Common.{◌∙◌, true, ap, arith}
 use Rattle.std.proofs.Math.ListN.{set}
 use Rattle.bfm_world.specs.Draft.{Draft}
 use Rattle.bfm_commands.specs.History.{is_in_some}
-use Rattle.bfm_commands.specs.Reading.{with_fixed_list}
+use Rattle.bfm_world.specs.Draft.{with_fixed_list}
 use Rattle.bfm_commands.proofs.FixedLemmas.{told-fixed, told-passed, laid-some, laid-none}
 use Rattle.bfm_commands.proofs.fixed.FixedRanges.fix_all.Goals as goal
 use Rattle.bfm_commands.proofs.fixed.FixedRanges.fix_all.Goals.{then-over-gt0, else-over-gt0}

@@ -1,5 +1,5 @@
 use Rattle.std.proofs.Common.{◌≡◌}
-use Rattle.bfm_commands.specs.Reading.{with_fixed_list}
+use Rattle.bfm_world.specs.Draft.{with_fixed_list}
 use Rattle.bfm_commands.proofs.FixedLemmas.{told}
 use Rattle.bfm_commands.proofs.fixed.FixedRanges.fix_all.Given as goal
 
