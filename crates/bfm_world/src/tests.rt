@@ -58,6 +58,7 @@ fn a_draft_that_begins_again_keeps_all_but_positions(rt: HostRuntime) -> Result<
     // Where the first monomer stood there is room again, and the bond asks for what it asked before.
     assert!(rt; builder.place(P3 { x: 1, y: 3, z: 0 }).is_ok());
     assert!(rt; builder.place(P3 { x: 5, y: 3, z: 0 }) == Err(Cause::BadBond));
+    assert!(rt; builder.count() == 2 && builder.placed() == 1);
     assert!(rt; builder.place(P3 { x: 4, y: 3, z: 0 }).is_ok());
     assert!(rt;
         builder.positions() == [P3 { x: 1, y: 3, z: 0 }, P3 { x: 4, y: 3, z: 0 }].as_slice()
