@@ -5,5 +5,6 @@ pub mod PartLemmas
 pub mod ReachLemmas
 pub mod SiteLemmas
 pub mod StartLemmas
+pub mod SweepingLemmas
 pub mod ValidLemmas
 pub mod VectorLemmas

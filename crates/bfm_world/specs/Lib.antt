@@ -2,3 +2,4 @@ pub mod Bonds
 pub mod Chains
 pub mod Configuration
 pub mod Draft
+pub mod Sweeping
