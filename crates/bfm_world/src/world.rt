@@ -3,8 +3,10 @@ ghost use Rattle.std.specs.List.{Contains, IsDistinct};
 ghost use Rattle.bfm_base.specs.Direction.{step_of};
 ghost use Rattle.bfm_base.specs.Place.{extent_of};
 ghost use Rattle.bfm_geom.specs.Difference.{IsBox, plus};
+ghost use Rattle.bond_set.specs.Crossing.{IsFree};
 ghost use Rattle.bfm_world.specs.Bonds.{neighbours_of, are_bonded};
 ghost use Rattle.bfm_world.specs.Configuration.{configuration_of, IsValid, position_of, target_of, label_of, class_of, valence_of, is_fixed, is_legal, keeps_bonds, moved, reach_of};
+ghost use Rattle.bfm_world.specs.Sweeping.{CrossesNone};
 
 use crate::parts::Parts;
 use crate::room;
@@ -185,12 +187,14 @@ impl World {
         shifted(self.position(i), dir.step())
     }
 
-    /// Moves a monomer by one lattice unit.
+    /// Moves a monomer by one lattice unit. Where the set of bond vectors is free, this takes none of
+    /// its bonds through a bond that shares no monomer with it, nor through any image of one.
     pub fn shift(&mut self, i: u32, dir: Dir)
         requires monomer { i < length self.old.positions }
         requires legal { is_legal self.old i dir ≡ true }
         requires reach { extent_of (target_of self.old i dir) ≤ WORLD_REACH }
-        ensures { self.new ≡ moved self.old i dir }
+        ensures moved { self.new ≡ moved self.old i dir }
+        ensures uncrossed { IsFree self.old.set → CrossesNone self.old i dir }
     {
         let target = self.target(i, dir);
         self.parts.positions[i as usize] = target;
