@@ -6,11 +6,13 @@ use Rattle.std.proofs.lemmas.Bool.Decides.{nat_tests}
 use Rattle.std.proofs.lemmas.List.{length-set}
 use Rattle.bfm_base.specs.declared.place.Dir.{Dir}
 use Rattle.bfm_world.specs.Configuration.{Configuration, IsValid, is_legal, moved, reach_of, target_of}
+use Rattle.bond_set.specs.Crossing.{IsFree}
+use Rattle.bfm_world.proofs.SweepingLemmas.{CrossesNone-free}
 use Rattle.bfm_world.proofs.ReachLemmas.{extent_of-target, reach_of-set}
 use Rattle.bfm_world.proofs.ValidLemmas.{IsValid-moved}
 use Rattle.rand_pcg.specs.Lcg.{Lcg}
 use Rattle.sweep_stream.specs.RandomWords.{generator_after, word_at}
-use Rattle.sweep_run.specs.Sweep.{Progress, attempted, after_attempts, swept, after_sweeps, state_at, monomer_of, direction_of}
+use Rattle.sweep_run.specs.Sweep.{Progress, attempted, after_attempts, swept, after_sweeps, state_at, monomer_of, direction_of, begun_with, NoMoveCrosses}
 
 -- one more attempt at the end
 pub after_attempts-suc : (n seed first count : ℕ) (run : Progress)
@@ -101,6 +103,49 @@ IsValid-state seed t count a run v =
     let begun = after_sweeps seed t count run in
     let n = length begun.world.positions in
     IsValid-after_attempts n seed (n * (t + count)) a begun (IsValid-after_sweeps seed t count run v)
+
+-- a move leaves the set of bond vectors as it is
+set-attempted : (legal : Bool) (run : Progress) (i : ℕ) (d : Dir)
+    → (cond legal (record { world = moved run.world i d; accepted = run.accepted + 1 }) run).world.set ≡ run.world.set
+set-attempted true run i d = refl
+set-attempted false run i d = refl
+
+set-after_attempts : (n seed first count : ℕ) (run : Progress) → (after_attempts n seed first count run).world.set ≡ run.world.set
+set-after_attempts n seed first zero run = refl
+set-after_attempts n seed first (suc count) run =
+    let i = monomer_of n seed first in
+    let d = direction_of seed first in
+    set-after_attempts n seed (first + 1) count (attempted run i d) ∙ set-attempted (is_legal run.world i d) run i d
+
+set-after_sweeps : (seed t count : ℕ) (run : Progress) → (after_sweeps seed t count run).world.set ≡ run.world.set
+set-after_sweeps seed t zero run = refl
+set-after_sweeps seed t (suc count) run =
+    let n = length run.world.positions in
+    set-after_sweeps seed (t + 1) count (swept seed t run) ∙ set-after_attempts n seed (n * t) n run
+
+-- each state of a run has the set of the first
+pub set-state : (seed t count a : ℕ) (run : Progress) → (state_at seed t count a run).world.set ≡ run.world.set
+set-state seed t count a run =
+    let begun = after_sweeps seed t count run in
+    let n = length begun.world.positions in
+    set-after_attempts n seed (n * (t + count)) a begun ∙ set-after_sweeps seed t count run
+
+-- no move of a run from a valid world crosses bonds where the set is free
+pub NoMoveCrosses-free : (seed t : ℕ) (world : Configuration) → IsValid world → IsFree world.set → NoMoveCrosses seed t world
+NoMoveCrosses-free seed t world v free count a legal =
+    let state = (state_at seed t count a (begun_with world)).world in
+    let n = length world.positions in
+    let k = n * (t + count) + a in
+    CrossesNone-free state (monomer_of n seed k) (direction_of seed k) (IsValid-state seed t count a (begun_with world) v)
+    (subst IsFree (sym (set-state seed t count a (begun_with world))) free) legal
+
+-- after k sweeps of a run this is known from an earlier sweep of it, and where none was made from the next one
+pub NoMoveCrosses-more : (seed first k accepted : ℕ) (start now : Configuration) → progress now accepted ≡ after_sweeps seed first k (progress start 0)
+    → (0 < k → IsFree start.set → NoMoveCrosses seed first start) → (IsFree now.set → NoMoveCrosses seed (first + k) now) → IsFree start.set → NoMoveCrosses seed first start
+NoMoveCrosses-more seed first zero accepted start now e before next =
+    let same : now ≡ start = ap (λ (r : Progress). r.world) e in
+    subst (λ (w : Configuration). IsFree w.set → NoMoveCrosses seed first w) same (subst (λ t. IsFree now.set → NoMoveCrosses seed t now) (add-zero first) next)
+NoMoveCrosses-more seed first (suc k) accepted start now e before next = before (omega arith)
 
 -- Where an engine stands after the first attempts of a run.
 pub record Stands (start now : Progress) (seed n first count : ℕ) (generator : Lcg) : Type 0 where

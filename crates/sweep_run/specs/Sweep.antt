@@ -1,10 +1,11 @@
 -- Attempts, sweeps and runs. A sweep is as many attempts as there are monomers. All attempts of a run
 -- are numbered through: attempt a of sweep t in a world of n monomers has the number n * t + a.
-use Rattle.std.specs.Prelude.{ℕ, zero, suc, ◌+◌, ◌*◌, ◌/◌, ◌^◌, length, slice_index_or, if◌then◌else◌}
+use Rattle.std.specs.Prelude.{◌≡◌, ℕ, true, zero, suc, ◌+◌, ◌*◌, ◌/◌, ◌^◌, length, slice_index_or, if◌then◌else◌}
 use Rattle.bfm_base.specs.declared.place.Dir.{Dir}
 use Rattle.bfm_base.specs.declared.place.Dir.TheVariants.{XUp}
 use Rattle.bfm_base.specs.Direction.{directions}
 use Rattle.bfm_world.specs.Configuration.{Configuration, is_legal, moved}
+use Rattle.bfm_world.specs.Sweeping.{CrossesNone}
 use Rattle.sweep_stream.specs.RandomWords.{word_at}
 
 -- the monomer and the direction that attempt k takes: words 3k and 3k + 1, read as fractions of 2^32
@@ -52,3 +53,16 @@ state_at seed t count a run =
 -- a run begins with no move made
 abbrev pub begun_with : Configuration → Progress
 begun_with world = record { world = world; accepted = 0 }
+
+-- The attempt that follows that state of a run from this world, where it makes its move, sweeps no bond through one that
+-- shares no monomer with it, in any image.
+abbrev pub NextCrossesNone : ℕ → ℕ → ℕ → ℕ → Configuration → Type 0
+NextCrossesNone seed t count a world =
+    let state = (state_at seed t count a (begun_with world)).world in
+    let n = length world.positions in
+    let k = n * (t + count) + a in
+    is_legal state (monomer_of n seed k) (direction_of seed k) ≡ true → CrossesNone state (monomer_of n seed k) (direction_of seed k)
+
+-- no move of a run from this world does, however long it goes on
+abbrev pub NoMoveCrosses : ℕ → ℕ → Configuration → Type 0
+NoMoveCrosses seed t world = (count a : ℕ) → NextCrossesNone seed t count a world

@@ -1,9 +1,9 @@
-use Rattle.std.proofs.Common.{◌≡◌, ◌+◌, ◌*◌, length, arith, sym, ap, ◌∙◌, ℕ, ◌≤◌, Bool, true, false, cond, refl}
+use Rattle.std.proofs.Common.{◌≡◌, ◌+◌, ◌*◌, length, arith, sym, ap, ◌∙◌, ℕ, ◌≤◌, Bool, true, false, cond, refl, subst}
 use mir.Val.{bool_byte}
 use Rattle.sweep_stream.specs.RandomWords.{generator_after}
 use Rattle.sweep_run.specs.Sweep.{attempted, monomer_of, direction_of}
-use Rattle.bfm_world.specs.Configuration.{Configuration}
-use Rattle.sweep_run.proofs.SweepLemmas.{Stands-more, progress}
+use Rattle.bfm_world.specs.Configuration.{Configuration, IsValid}
+use Rattle.sweep_run.proofs.SweepLemmas.{Stands-more, progress, NoMoveCrosses-free}
 use Rattle.sweep_run.proofs.attempts.sweep.Goals as goal
 
 bool_byte-is : (b : Bool) → bool_byte b ≡ cond b 1 0
@@ -50,3 +50,8 @@ returns-clause-reach g c =
     let w = g.E.Engine.configuration c.args.engine.now in
     let n : c.len-monomers.result ≡ length w.positions = c.len-monomers.ensures.count ∙ ap (λ (v : Configuration). length v.positions) c.world.ensures in
     omega (arith, (c.loop-attempt.invariant.0 0).reach, n)
+
+pub returns-clause-uncrossed : goal.returns-clause-uncrossed
+returns-clause-uncrossed g c free =
+    let w = g.E.Engine.configuration c.args.engine.now in
+    NoMoveCrosses-free c.args.seed c.args.t w (subst (λ (v : Configuration). IsValid v) c.world.ensures c.len-monomers.ensures.valid) free

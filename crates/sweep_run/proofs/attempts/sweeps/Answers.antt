@@ -1,6 +1,6 @@
 use Rattle.std.proofs.Common.{◌≡◌, ◌+◌, ◌*◌, length, arith, ap, sym, ◌∙◌, add-one, add_assoc}
 use Rattle.sweep_run.specs.Sweep.{after_sweeps, swept}
-use Rattle.sweep_run.proofs.SweepLemmas.{progress, after_sweeps-suc}
+use Rattle.sweep_run.proofs.SweepLemmas.{progress, after_sweeps-suc, NoMoveCrosses-more}
 use Rattle.sweep_run.proofs.attempts.sweeps.Goals as goal
 
 pub loop-done-preserved : goal.loop-done-preserved
@@ -20,4 +20,8 @@ loop-done-preserved g c =
       more.monomers ∙ inv.1,
       omega (arith, more.reach, inv.1, inv.2, step),
       omega (arith, more.few, inv.1, inv.3, step),
+      λ _. NoMoveCrosses-more seed first k (0 + c.loop-done.accepted) start (g.E.Engine.configuration c.loop-done.engine) (inv.0 0) inv.4 more.uncrossed,
     )
+
+pub returns-clause-uncrossed : goal.returns-clause-uncrossed
+returns-clause-uncrossed g c free done a less = c.loop-done.invariant.4 (omega arith) free done a

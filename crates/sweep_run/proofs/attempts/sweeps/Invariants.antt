@@ -1,6 +1,7 @@
-use Rattle.std.proofs.Common.{◌≡◌, ℕ, ◌+◌, ◌*◌, ◌≤◌, length}
+use Rattle.std.proofs.Common.{◌≡◌, ℕ, ◌+◌, ◌*◌, ◌<◌, ◌≤◌, length}
 use Rattle.bfm_world.specs.Configuration.{reach_of}
-use Rattle.sweep_run.specs.Sweep.{after_sweeps}
+use Rattle.bond_set.specs.Crossing.{IsFree}
+use Rattle.sweep_run.specs.Sweep.{after_sweeps, NoMoveCrosses}
 use Rattle.sweep_run.proofs.SweepLemmas.{progress}
 use Rattle.sweep_run.proofs.attempts.sweeps.Given as goal
 
@@ -12,3 +13,4 @@ invariant-loop-done g l =
     × (length now.positions ≡ length start.positions)
     × (reach_of now.positions ≤ reach_of start.positions + length start.positions * l.done)
     × (l.accepted ≤ length start.positions * l.done)
+    × (0 < l.done → IsFree start.set → NoMoveCrosses l.seed l.first start)
