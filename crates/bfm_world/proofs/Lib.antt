@@ -5,6 +5,7 @@ pub mod PartLemmas
 pub mod ReachLemmas
 pub mod SiteLemmas
 pub mod StartLemmas
+mod SweepingExamples
 pub mod SweepingLemmas
 pub mod ValidLemmas
 pub mod VectorLemmas
