@@ -1,8 +1,9 @@
 ghost use Rattle.std.specs.Prelude.{◌≡◌, ◌+◌, ◌*◌, ◌≤◌, ◌++◌, length, IfOk};
+ghost use Rattle.bond_set.specs.Crossing.{IsFree};
 ghost use Rattle.bfm_base.specs.Account.{Sends, Delivers};
 ghost use Rattle.bfm_base.specs.declared.limits.TheConstants.{MOST_FRAMES, MOST_SWEEPS};
 ghost use Rattle.bfm_world.specs.Configuration.{reach_of};
-ghost use Rattle.sweep_run.specs.Sweep.{after_sweeps, begun_with};
+ghost use Rattle.sweep_run.specs.Sweep.{after_sweeps, begun_with, NoMoveCrosses};
 ghost use Rattle.bfm_session.specs.Running.{Runs, groups_text};
 ghost use Rattle.crossing_check.specs.declared.judgement.SetVerdict.{SetVerdict};
 
@@ -51,7 +52,12 @@ pub fn run<O: Sink>(
     requires frames { order.now.frames ≤ MOST_FRAMES }
     requires every { order.now.every ≤ MOST_SWEEPS }
     requires mcs { loaded.mcs ≤ GREATEST_MCS }
-    ensures { (verdict : SetVerdict) × Runs result loaded order.now verdict kept.now (O.account output.old) (O.account output.new) (output.new ≡ output.old) }
+    ensures does { (verdict : SetVerdict) × Runs result loaded order.now verdict kept.now (O.account output.old) (O.account output.new) (output.new ≡ output.old) }
+
+    // Where the set of bond vectors is free, no move of the run takes a bond through another that shares no monomer with it;
+    // nor where the verdict on it says so.
+    ensures uncrossed { IsFree loaded.world.set → NoMoveCrosses order.now.seed loaded.mcs loaded.world }
+    ensures told_free { IfOk result (λ done. done.verdict ≡ SetVerdict.Free → NoMoveCrosses order.now.seed loaded.mcs loaded.world) }
 {
     let sweeps = order.frames * order.every;
     let mcs = u128::from(loaded.mcs) + u128::from(sweeps);
