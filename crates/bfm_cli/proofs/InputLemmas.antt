@@ -1,6 +1,5 @@
 -- What bytes that were taken say of all that an input had left.
-use Rattle.std.proofs.Common.{◌≡◌, ℕ, List, [], ◌++◌, Option, Some, None, inl, inr, refl, ap, ◌∙◌, subst, append-nil, arith}
-use Rattle.std.proofs.KnownBytes.{Consumes-nil}
+use Rattle.std.proofs.Common.{◌≡◌, ℕ, List, [], ◌++◌, Option, Some, None, inl, inr, refl, ap, ◌∙◌, subst, append-nil}
 use Rattle.std.specs.Io.KnownBytes.{Consumes, IsAtEnd}
 use Rattle.bfm_base.specs.declared.cause.Refused.{Refused}
 use Rattle.bfm_commands.specs.declared.loaded.Loaded.{Loaded}
@@ -39,13 +38,6 @@ pub Holds-long : (old new : Option (List ℕ)) (limit : ℕ) (taken : List ℕ) 
 Holds-long old new limit taken c v =
     let h = Holds-taken old new taken c in
     (taken ++ h.0, h.1, limited-long-more limit taken h.0 v)
-
--- no byte is taken
-pub Takes-nothing : (supply : Supply) → Takes 0 supply supply []
-Takes-nothing supply = record {
-  consumed = Consumes-nil supply.left;
-  undecided = (0, omega arith, record { within = omega arith; right = refl });
-}
 
 -- two limits that are one
 pub Stops-limit : (fault : LoadFault) (m n : ℕ) (old new : Supply) → m ≡ n → ((taken : List ℕ) × Takes m old new taken × Stops fault m old new taken) → (taken : List ℕ) × Takes n old new taken × Stops fault n old new taken

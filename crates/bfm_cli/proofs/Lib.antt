@@ -1,5 +1,5 @@
 mod InputLemmas
-mod JobLemmas
 mod OutcomeLemmas
+mod StartLemmas
 mod VerdictLemmas
 mod WordLemmas

@@ -14,8 +14,10 @@ use Rattle.bfm_cli.specs.declared.status.Status.TheVariants as statuses
 abbrev pub status_of : Ending → Status
 status_of (ends.Ran done) = statuses.Done
 status_of ends.Answered = statuses.Done
+status_of ends.Built = statuses.Done
 status_of (ends.BadWords word) = statuses.BadWords
 status_of (ends.BadFile refused) = statuses.BadFile
+status_of (ends.NoRoom need have) = statuses.NoRoom
 status_of (ends.TooLong limit) = statuses.TooLong
 status_of (ends.TooFar mcs reach) = statuses.TooFar
 
@@ -34,6 +36,7 @@ abbrev pub code_of : Status → ℕ
 code_of statuses.Done = 0
 code_of statuses.BadWords = 2
 code_of statuses.BadFile = 3
+code_of statuses.NoRoom = 4
 code_of statuses.ReadFault = 5
 code_of statuses.WriteFault = 6
 code_of statuses.Memory = 7
@@ -41,7 +44,7 @@ code_of statuses.TooLong = 8
 code_of statuses.ReportFault = 9
 code_of statuses.TooFar = 10
 
--- the text of the report; that of an answered question is empty
+-- the text of the report; that of an answered question and that of a start are empty
 abbrev pub report_of : Ending → List ℕ
 report_of (ends.Ran done) =
     concat (
@@ -55,9 +58,11 @@ report_of (ends.Ran done) =
     )
     ++ crossing_text done.verdict
 report_of ends.Answered = []
+report_of ends.Built = []
 report_of (ends.BadWords word) = number_line (codes "words") (word ∷ [])
 report_of (ends.BadFile refused) =
     concat (codes "line " ∷ decimal refused.line ∷ codes " cause " ∷ decimal (cause_number refused.cause) ∷ codes " " ∷ cause_name refused.cause ∷ codes "\n" ∷ [])
+report_of (ends.NoRoom need have) = number_line (codes "room") (need ∷ have ∷ [])
 report_of (ends.TooLong limit) = number_line (codes "long") (limit ∷ [])
 report_of (ends.TooFar mcs reach) = concat (codes "far " ∷ decimal mcs ∷ codes " " ∷ decimal reach ∷ codes "\n" ∷ [])
 

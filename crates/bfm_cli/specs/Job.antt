@@ -4,9 +4,13 @@ use Rattle.std.specs.Str.{bytes_eq}
 use Rattle.bfm_base.specs.declared.limits.TheConstants.{GREATEST_LIMIT, MOST_FRAMES, MOST_SWEEPS, USUAL_LIMIT}
 use Rattle.bfm_session.specs.declared.analysis.Ask.{Ask}
 use Rattle.bfm_session.specs.declared.analysis.Ask.TheVariants.{Check, Info}
+use Rattle.bfm_cli.specs.Start.{IsStart, brush_in, brush_keys, melt_in, melt_keys}
 use Rattle.bfm_cli.specs.Words.{Key, first_wrong, number_for}
+use Rattle.bfm_cli.specs.declared.job.FileJob.{FileJob}
+use Rattle.bfm_cli.specs.declared.job.FileJob.TheVariants.{Run, Look}
 use Rattle.bfm_cli.specs.declared.job.Job.{Job}
-use Rattle.bfm_cli.specs.declared.job.Job.TheVariants.{Run, Look}
+use Rattle.bfm_cli.specs.declared.job.Job.TheVariants.{Build, File}
+use Rattle.bfm_cli.specs.declared.start.Start.{Start}
 
 -- the keys of the job `run` alone
 abbrev pub seed_key : Key
@@ -31,7 +35,7 @@ look_keys = limit_key ∷ []
 
 -- a run, where each of its keys has a number; else the number of the word that is missing
 abbrev pub order_of : ℕ → Option ℕ → Option ℕ → Option ℕ → Option ℕ → Result Job ℕ
-order_of missing (Some seed) (Some frames) (Some every) (Some limit) = Ok (Run (record { seed = seed; frames = frames; every = every; limit = limit }))
+order_of missing (Some seed) (Some frames) (Some every) (Some limit) = Ok (File (Run (record { seed = seed; frames = frames; every = every; limit = limit })))
 order_of missing seed frames every limit = Err missing
 
 -- The words behind the job's name, which is word 1: the first wrong one goes before one that is missing.
@@ -41,7 +45,7 @@ run_of words None =
     order_of (length words + 2) (number_for seed_key words) (number_for frames_key words) (number_for every_key words) (number_for limit_key words)
 
 abbrev pub asked_of : Ask → ℕ → Option ℕ → Result Job ℕ
-asked_of ask missing (Some limit) = Ok (Look ask limit)
+asked_of ask missing (Some limit) = Ok (File (Look ask limit))
 asked_of ask missing None = Err missing
 
 -- the same for an analysis
@@ -49,16 +53,34 @@ abbrev pub look_of : Ask → List (List ℕ) → Option ℕ → Result Job ℕ
 look_of ask words (Some before) = Err (before + 2)
 look_of ask words None = asked_of ask (length words + 2) (number_for limit_key words)
 
+-- a start, by the words behind its kind, which is word 2; numbers that do not go together are told as one that is missing
+abbrev pub started : List (List ℕ) → Option ℕ → Option Start → Result Job ℕ
+started words (Some before) start = Err (before + 3)
+started words None (Some start) = Ok (Build start)
+started words None None = Err (length words + 3)
+
+abbrev pub build_of : List (List ℕ) → Result Job ℕ
+build_of [] = Err 2
+build_of (kind ∷ words) =
+    if bytes_eq kind (codes "melt") then started words (first_wrong melt_keys [] words) (melt_in words)
+    else if bytes_eq kind (codes "brush") then started words (first_wrong brush_keys [] words) (brush_in words)
+    else Err 2
+
 -- the job, or the number of the first wrong word
 abbrev pub job_of : List (List ℕ) → Result Job ℕ
 job_of [] = Err 1
 job_of (name ∷ words) =
     if bytes_eq name (codes "run") then run_of words (first_wrong run_keys [] words)
+    else if bytes_eq name (codes "build") then build_of words
     else if bytes_eq name (codes "check") then look_of Check words (first_wrong look_keys [] words)
     else if bytes_eq name (codes "info") then look_of Info words (first_wrong look_keys [] words)
     else Err 1
 
 -- the numbers of a job are in their ranges
+abbrev pub IsFileJob : FileJob → Type 0
+IsFileJob (Run order) = (order.frames ≤ MOST_FRAMES) × (1 ≤ order.every) × (order.every ≤ MOST_SWEEPS) × (order.limit ≤ GREATEST_LIMIT)
+IsFileJob (Look ask limit) = limit ≤ GREATEST_LIMIT
+
 abbrev pub IsInRange : Job → Type 0
-IsInRange (Run order) = (order.frames ≤ MOST_FRAMES) × (1 ≤ order.every) × (order.every ≤ MOST_SWEEPS) × (order.limit ≤ GREATEST_LIMIT)
-IsInRange (Look ask limit) = limit ≤ GREATEST_LIMIT
+IsInRange (File job) = IsFileJob job
+IsInRange (Build start) = IsStart start

@@ -3,4 +3,5 @@ pub mod Job
 pub mod Keys
 pub mod Outcome
 pub mod Promise
+pub mod Start
 pub mod Words

@@ -11,9 +11,13 @@ use Rattle.sweep_run.specs.Sweep.{state_at, begun_with}
 use Rattle.bfm_session.specs.Loading.{Supply, IsOpen, IsShown, ReadWhole, Takes, limited_verdict, too_long}
 use Rattle.bfm_session.specs.declared.order.RunOrder.{RunOrder}
 use Rattle.bfm_cli.specs.Ending.{status_of, ended_status, ended_report}
-use Rattle.bfm_cli.specs.Outcome.{Outcome, JudgesFor, JudgesInput, accepted_outcome, job_outcome, limit_of}
+use Rattle.bfm_cli.specs.Outcome.{Outcome, JudgesFor, JudgesInput, accepted_outcome, build_outcome, job_outcome, limit_of}
+use Rattle.bfm_cli.specs.Start.{world_of}
+use Rattle.bfm_cli.specs.declared.job.FileJob.{FileJob}
+use Rattle.bfm_cli.specs.declared.job.FileJob.TheVariants.{Run, Look}
 use Rattle.bfm_cli.specs.declared.job.Job.{Job}
-use Rattle.bfm_cli.specs.declared.job.Job.TheVariants.{Run, Look}
+use Rattle.bfm_cli.specs.declared.job.Job.TheVariants.{Build, File}
+use Rattle.bfm_cli.specs.declared.start.Start.{Start}
 use Rattle.bfm_cli.specs.declared.ending.Ending.{Ending}
 use Rattle.bfm_cli.specs.declared.ending.Ending.TheVariants as ends
 use Rattle.bfm_cli.specs.declared.ending.Fault.{Fault}
@@ -54,42 +58,41 @@ abbrev pub Holds : Option (List ℕ) → List ℕ → Type 0
 Holds None bytes = Unit {0}
 Holds (Some left) bytes = left ≡ bytes
 
--- how many bytes are read at most: none for words that ask for no job
-abbrev pub limit_in : Result Job ℕ → ℕ
-limit_in (Err word) = 0
-limit_in (Ok job) = limit_of job
+-- What a job with a file did to its input, of which it took these bytes. A wrong line and a file that is too long show in
+-- them, and a call that fails comes before either.
+abbrev pub Reads : Result Ending Fault → ℕ → List ℕ → Supply → Supply → Type 0
+Reads (Ok (ends.Ran done)) limit taken before after = ReadWhole before after
+Reads (Ok ends.Answered) limit taken before after = ReadWhole before after
+Reads (Ok ends.Built) limit taken before after = ⊥
+Reads (Ok (ends.BadWords word)) limit taken before after = ⊥
+Reads (Ok (ends.BadFile wrong)) limit taken before after = (after.faults ≡ before.faults) × IsShown wrong limit taken after.left
+Reads (Ok (ends.NoRoom need have)) limit taken before after = ⊥
+Reads (Ok (ends.TooLong beyond)) limit taken before after = (after.faults ≡ before.faults) × (limited_verdict limit taken ≡ too_long)
+Reads (Ok (ends.TooFar mcs reach)) limit taken before after = ReadWhole before after
+Reads (Err faults.Read) limit taken before after = Rose before.faults after.faults × IsOpen limit taken
+Reads (Err faults.Write) limit taken before after = ReadWhole before after
+Reads (Err faults.Memory) limit taken before after = after.faults ≡ before.faults
 
--- What the job did to its input, of which it took these bytes. A wrong line and a file that is too long show in them, and
--- a call that fails comes before either. `unread` says that the input is as it was.
-abbrev pub Reads : Result Ending Fault → ℕ → List ℕ → Supply → Supply → Type 0 → Type 0
-Reads (Ok (ends.Ran done)) limit taken before after unread = ReadWhole before after
-Reads (Ok ends.Answered) limit taken before after unread = ReadWhole before after
-Reads (Ok (ends.BadWords word)) limit taken before after unread = unread
-Reads (Ok (ends.BadFile wrong)) limit taken before after unread = (after.faults ≡ before.faults) × IsShown wrong limit taken after.left
-Reads (Ok (ends.TooLong beyond)) limit taken before after unread = (after.faults ≡ before.faults) × (limited_verdict limit taken ≡ too_long)
-Reads (Ok (ends.TooFar mcs reach)) limit taken before after unread = ReadWhole before after
-Reads (Err faults.Read) limit taken before after unread = Rose before.faults after.faults × IsOpen limit taken
-Reads (Err faults.Write) limit taken before after unread = ReadWhole before after
-Reads (Err faults.Memory) limit taken before after unread = after.faults ≡ before.faults
+-- What was done to the input, of which these bytes were taken. Wrong words and starts need none: they leave it as it was,
+-- and no call of it fails. `unread` says that the input is as it was.
+abbrev pub Uses : Result Job ℕ → Result Ending Fault → List ℕ → Supply → Supply → Type 0 → Type 0
+Uses (Err word) ended taken before after unread = unread × (ended ≢ Err faults.Read)
+Uses (Ok (Build start)) ended taken before after unread = unread × (ended ≢ Err faults.Read)
+Uses (Ok (File job)) ended taken before after unread = Takes (limit_of job) before after taken × Reads ended (limit_of job) taken before after
 
 -- What the job did to its output, which is to take this text. `unwritten` says that the output is as it was.
 abbrev pub Writes : Result Ending Fault → List ℕ → Account → Account → Type 0 → Type 0
 Writes (Ok (ends.Ran done)) text before after unwritten = Delivered before after text
 Writes (Ok ends.Answered) text before after unwritten = Delivered before after text
+Writes (Ok ends.Built) text before after unwritten = Delivered before after text
 Writes (Ok (ends.BadWords word)) text before after unwritten = unwritten
 Writes (Ok (ends.BadFile refused)) text before after unwritten = unwritten
+Writes (Ok (ends.NoRoom need have)) text before after unwritten = unwritten
 Writes (Ok (ends.TooLong limit)) text before after unwritten = unwritten
 Writes (Ok (ends.TooFar mcs reach)) text before after unwritten = unwritten
 Writes (Err faults.Read) text before after unwritten = unwritten
 Writes (Err faults.Write) text before after unwritten = TookPrefix before after text
 Writes (Err faults.Memory) text before after unwritten = unwritten
-
--- all that a job did which took these bytes of its input, where this is its outcome
-pub record Does (ended : Result Ending Fault) (outcome : Outcome) (limit : ℕ) (taken : List ℕ) (scene : Scene) : Type 0 where
-  pub agrees : Agrees ended outcome
-  pub takes : Takes limit scene.input_before scene.input_after taken
-  pub reads : Reads ended limit taken scene.input_before scene.input_after scene.unread
-  pub writes : Writes ended outcome.output scene.output_before scene.output_after scene.unwritten
 
 -- Each state of a run of an accepted file, between its sweeps and within them, is a valid configuration: all
 -- monomers are within the walls, no two overlap, and each bond has a vector of the set.
@@ -98,53 +101,88 @@ HasValidStates order (Err wrong) = Unit {0}
 HasValidStates order (Ok loaded) =
     (count a : ℕ) → IsValid (state_at order.seed loaded.mcs count a (begun_with loaded.world)).world
 
-abbrev pub HasValidRun : Result Job ℕ → List ℕ → Type 0
-HasValidRun (Err word) bytes = Unit {0}
-HasValidRun (Ok (Run order)) bytes = HasValidStates order (verdict_of bytes)
-HasValidRun (Ok (Look ask limit)) bytes = Unit {0}
+-- the worlds of a job are valid: each state of a run, and the world of a start
+abbrev pub HasValidWorlds : Result Job ℕ → List ℕ → Type 0
+HasValidWorlds (Err word) bytes = Unit {0}
+HasValidWorlds (Ok (File (Run order))) bytes = HasValidStates order (verdict_of bytes)
+HasValidWorlds (Ok (File (Look ask limit))) bytes = Unit {0}
+HasValidWorlds (Ok (Build start)) bytes = IsValid (world_of start)
 
 -- what comes only where the output was called
 abbrev pub IsBegun : Result Ending Fault → Type 0
 IsBegun (Ok (ends.Ran done)) = Unit {0}
 IsBegun (Ok ends.Answered) = Unit {0}
+IsBegun (Ok ends.Built) = Unit {0}
 IsBegun (Ok (ends.BadWords word)) = ⊥
 IsBegun (Ok (ends.BadFile refused)) = ⊥
+IsBegun (Ok (ends.NoRoom need have)) = ⊥
 IsBegun (Ok (ends.TooLong limit)) = ⊥
 IsBegun (Ok (ends.TooFar mcs reach)) = ⊥
 IsBegun (Err faults.Read) = ⊥
 IsBegun (Err faults.Write) = Unit {0}
 IsBegun (Err faults.Memory) = ⊥
 
--- what comes only once a file was accepted
-abbrev pub IsAfterReading : Result Ending Fault → Type 0
-IsAfterReading (Ok (ends.Ran done)) = Unit {0}
-IsAfterReading (Ok ends.Answered) = Unit {0}
-IsAfterReading (Ok (ends.BadWords word)) = ⊥
-IsAfterReading (Ok (ends.BadFile refused)) = ⊥
-IsAfterReading (Ok (ends.TooLong limit)) = ⊥
-IsAfterReading (Ok (ends.TooFar mcs reach)) = Unit {0}
-IsAfterReading (Err faults.Read) = ⊥
-IsAfterReading (Err faults.Write) = Unit {0}
-IsAfterReading (Err faults.Memory) = ⊥
+-- what comes only once there is a world, read or built
+abbrev pub HasWorld : Result Ending Fault → Type 0
+HasWorld (Ok (ends.Ran done)) = Unit {0}
+HasWorld (Ok ends.Answered) = Unit {0}
+HasWorld (Ok ends.Built) = Unit {0}
+HasWorld (Ok (ends.BadWords word)) = ⊥
+HasWorld (Ok (ends.BadFile refused)) = ⊥
+HasWorld (Ok (ends.NoRoom need have)) = ⊥
+HasWorld (Ok (ends.TooLong limit)) = ⊥
+HasWorld (Ok (ends.TooFar mcs reach)) = Unit {0}
+HasWorld (Err faults.Read) = ⊥
+HasWorld (Err faults.Write) = Unit {0}
+HasWorld (Err faults.Memory) = ⊥
+
+-- what a file that was accepted may come to
+abbrev pub IsOfFile : Result Ending Fault → Type 0
+IsOfFile (Ok (ends.Ran done)) = Unit {0}
+IsOfFile (Ok ends.Answered) = Unit {0}
+IsOfFile (Ok ends.Built) = ⊥
+IsOfFile (Ok (ends.BadWords word)) = ⊥
+IsOfFile (Ok (ends.BadFile refused)) = ⊥
+IsOfFile (Ok (ends.NoRoom need have)) = ⊥
+IsOfFile (Ok (ends.TooLong limit)) = ⊥
+IsOfFile (Ok (ends.TooFar mcs reach)) = Unit {0}
+IsOfFile (Err faults.Read) = ⊥
+IsOfFile (Err faults.Write) = Unit {0}
+IsOfFile (Err faults.Memory) = Unit {0}
 
 -- What a job did with an accepted file, of which this part is kept. Where it was begun, the verdict is one that it may tell.
-pub record DoesAccepted (ended : Result Ending Fault) (job : Job) (loaded : Loaded) (kept : List ℕ) (before after : Account) (unwritten : Type 0) : Type 0 where
+pub record DoesAccepted (ended : Result Ending Fault) (job : FileJob) (loaded : Loaded) (kept : List ℕ) (before after : Account) (unwritten : Type 0) : Type 0 where
   pub verdict : SetVerdict
   pub judged : IsBegun ended → JudgesFor job loaded verdict
   pub agrees : Agrees ended (accepted_outcome job loaded kept verdict)
-  pub read : IsAfterReading ended ⊎ (ended ≡ Err faults.Memory)
+  pub of_file : IsOfFile ended
   pub writes : Writes ended (accepted_outcome job loaded kept verdict).output before after unwritten
 
--- All that was done for a job, over the bytes that the input had left, of which some were taken. Where it was begun, the
--- verdict is one that it may tell. Each state of a run of an accepted file is valid.
+-- what was done for a start; no call of the input is made
+pub record DoesBuilt (ended : Result Ending Fault) (start : Start) (before after : Account) (unwritten : Type 0) : Type 0 where
+  pub agrees : Agrees ended (build_outcome start)
+  pub needs_no_input : ended ≢ Err faults.Read
+  pub writes : Writes ended (build_outcome start).output before after unwritten
+  pub valid : HasWorld ended → IsValid (world_of start)
+
+-- All that was done for a job, over the bytes that the input had left, of which some were taken. Where the output was
+-- called, the verdict is one that it may tell. Its worlds are valid.
 pub record DoesOver (ended : Result Ending Fault) (job : Result Job ℕ) (scene : Scene) : Type 0 where
   pub bytes : List ℕ
   pub left : Holds scene.input_before.left bytes
   pub taken : List ℕ
   pub verdict : SetVerdict
   pub judged : IsBegun ended → JudgesInput job bytes verdict
-  pub does : Does ended (job_outcome job bytes verdict) (limit_in job) taken scene
-  pub states : IsAfterReading ended → HasValidRun job bytes
+  pub agrees : Agrees ended (job_outcome job bytes verdict)
+  pub uses : Uses job ended taken scene.input_before scene.input_after scene.unread
+  pub writes : Writes ended (job_outcome job bytes verdict).output scene.output_before scene.output_after scene.unwritten
+  pub worlds : HasWorld ended → HasValidWorlds job bytes
+
+-- a job that reads no file
+abbrev pub NeedsNoInput : Result Job ℕ → Type 0
+NeedsNoInput (Err word) = Unit {0}
+NeedsNoInput (Ok (File job)) = ⊥
+NeedsNoInput (Ok (Build start)) = Unit {0}
 
 -- the report was made and flushed, or a prefix of it until a call failed
 abbrev pub Reports : Result Ending Fault → Status → Account → Account → Type 0

@@ -25,9 +25,14 @@ pub enum Ending {
     Ran(RunReport),
     /// What was asked of the input was written.
     Answered,
+    /// The file of a start was written.
+    Built,
     /// The number of the first wrong word, from 1.
     BadWords(u64),
     BadFile(Refused),
+    /// The box has too little room for the start: how much that needs and how much there is, counted
+    /// as its builder counts (cells for a melt, monomers of a chain for a brush).
+    NoRoom { need: u64, have: u64 },
     /// The limit that the input goes beyond, in bytes.
     TooLong(u64),
     /// The last time of the run, in sweeps, and how far it might come, in lattice units.

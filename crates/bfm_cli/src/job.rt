@@ -1,7 +1,9 @@
-ghost use Rattle.std.specs.Prelude.{◌≡◌, [], map, IfOk, string_bytes};
-ghost use Rattle.bfm_cli.specs.Job.{job_of, look_keys, look_of, run_keys, run_of, IsInRange};
+ghost use Rattle.std.specs.Prelude.{◌≡◌, ◌<◌, [], length, map, IfOk, IfSome, string_bytes};
+ghost use Rattle.bfm_cli.specs.Start.{IsStart};
+ghost use Rattle.bfm_cli.specs.Job.{build_of, job_of, look_keys, look_of, run_keys, run_of, started, IsInRange};
 ghost use Rattle.bfm_cli.specs.Words.{first_wrong};
 
+use crate::start::{BRUSH_KEYS, MELT_KEYS, Start, brush_in, melt_in};
 use crate::words::{Key, first_wrong, number_for};
 use bfm_base::limits::{GREATEST_LIMIT, MOST_FRAMES, MOST_SWEEPS, USUAL_LIMIT};
 use bfm_session::{Ask, RunOrder};
@@ -9,8 +11,16 @@ use bfm_session::{Ask, RunOrder};
 /// What the program is asked to do.
 #[derive(Clone, Copy, Debug, PartialEq, Eq)]
 pub enum Job {
+    /// A file is read first.
+    File(FileJob),
+    Build(Start),
+}
+
+/// What is done with a file that was read.
+#[derive(Clone, Copy, Debug, PartialEq, Eq)]
+pub enum FileJob {
     Run(RunOrder),
-    /// An analysis of a file, of which at most `limit` bytes are read, 0 to 2^30.
+    /// An analysis of the file, of which at most `limit` bytes are read, 0 to 2^30.
     Look { ask: Ask, limit: u64 },
 }
 
@@ -43,9 +53,9 @@ const LIMIT: Key = Key {
 };
 
 /// The job that the words after the program's name ask for, or the number of the first wrong word,
-/// from 1: a word that names no job, that is not `key=number` with a key of the job, that repeats a
-/// key or whose number is out of range. Where a key is missing that has no usual number it is the
-/// number of words plus 1.
+/// from 1: a word that names no job or no start, that is not `key=number` with a key of the job,
+/// that repeats a key or whose number is out of range. Where a key is missing that has no usual
+/// number, or the numbers of a start do not go together, it is the number of words plus 1.
 pub fn job_of(words: &[String]) -> Result<Job, u64>
     ensures job { result ≡ job_of (map string_bytes words.now) }
     ensures ranges { IfOk result IsInRange }
@@ -55,6 +65,8 @@ pub fn job_of(words: &[String]) -> Result<Job, u64>
     };
     if name.as_str() == "run" {
         run_of(words)
+    } else if name.as_str() == "build" {
+        build_of(words)
     } else if name.as_str() == "check" {
         look_of(Ask::Check, words)
     } else if name.as_str() == "info" {
@@ -66,19 +78,21 @@ pub fn job_of(words: &[String]) -> Result<Job, u64>
 
 /// The analysis whose name stands before these words.
 fn look_of(ask: Ask, words: &[String]) -> Result<Job, u64>
-    ensures { result ≡ look_of ask (map string_bytes words.now) (first_wrong look_keys [] (map string_bytes words.now)) }
+    ensures job { result ≡ look_of ask (map string_bytes words.now) (first_wrong look_keys [] (map string_bytes words.now)) }
+    ensures ranges { IfOk result IsInRange }
 {
     if let Some(before) = first_wrong(&[LIMIT], words) {
         return Err(before + 2);
     }
     let missing = words.len() as u64 + 2;
     let limit = number_for(&LIMIT, words).ok_or(missing)?;
-    Ok(Job::Look { ask, limit })
+    Ok(Job::File(FileJob::Look { ask, limit }))
 }
 
 /// The run that the words after the job's name ask for.
 fn run_of(words: &[String]) -> Result<Job, u64>
-    ensures { result ≡ run_of (map string_bytes words.now) (first_wrong run_keys [] (map string_bytes words.now)) }
+    ensures job { result ≡ run_of (map string_bytes words.now) (first_wrong run_keys [] (map string_bytes words.now)) }
+    ensures ranges { IfOk result IsInRange }
 {
     if let Some(before) = first_wrong(&[SEED, FRAMES, EVERY, LIMIT], words) {
         return Err(before + 2);
@@ -88,10 +102,42 @@ fn run_of(words: &[String]) -> Result<Job, u64>
     let frames = number_for(&FRAMES, words).ok_or(missing)?;
     let every = number_for(&EVERY, words).ok_or(missing)?;
     let limit = number_for(&LIMIT, words).ok_or(missing)?;
-    Ok(Job::Run(RunOrder {
+    Ok(Job::File(FileJob::Run(RunOrder {
         seed,
         frames,
         every,
         limit,
-    }))
+    })))
+}
+
+/// The start that the words after `build` ask for.
+fn build_of(words: &[String]) -> Result<Job, u64>
+    ensures job { result ≡ build_of (map string_bytes words.now) }
+    ensures ranges { IfOk result IsInRange }
+{
+    let Some((kind, words)) = words.split_first() else {
+        return Err(2);
+    };
+    if kind.as_str() == "melt" {
+        started(words, first_wrong(&MELT_KEYS, words), melt_in(words))
+    } else if kind.as_str() == "brush" {
+        started(words, first_wrong(&BRUSH_KEYS, words), brush_in(words))
+    } else {
+        Err(2)
+    }
+}
+
+/// The job that builds a start, by the words behind its kind, of which the first wrong one may have
+/// so many before it.
+fn started(words: &[String], wrong: Option<u64>, start: Option<Start>) -> Result<Job, u64>
+    requires within { IfSome wrong (λ before. before < length words.now) }
+    requires range { IfSome start IsStart }
+    ensures job { result ≡ started (map string_bytes words.now) wrong start }
+    ensures ranges { IfOk result IsInRange }
+{
+    match (wrong, start) {
+        (Some(before), _) => Err(before + 3),
+        (None, Some(start)) => Ok(Job::Build(start)),
+        (None, None) => Err(words.len() as u64 + 3),
+    }
 }

@@ -6,11 +6,15 @@
 //! and says what was done where a fault kept the job from that.
 #![tactic(auto)]
 
+mod building;
+#[cfg(test)]
+mod building_tests;
 mod ending;
 mod job;
 #[cfg(test)]
 mod reading_tests;
 mod report;
+mod start;
 mod status;
 #[cfg(test)]
 mod tests;

@@ -57,9 +57,10 @@ fn write_ending<P: Sink>(ending: &Ending, report: &mut P) -> Result<(), Failed>
 {
     match ending {
         Ending::Ran(done) => write_run(done, report),
-        Ending::Answered => Ok(()),
+        Ending::Answered | Ending::Built => Ok(()),
         Ending::BadWords(word) => number_lines(report, &[(b"words", &[*word])]),
         Ending::BadFile(refused) => write_refused(refused, report),
+        Ending::NoRoom { need, have } => number_lines(report, &[(b"room", &[*need, *have])]),
         Ending::TooLong(limit) => number_lines(report, &[(b"long", &[*limit])]),
         Ending::TooFar { mcs, reach } => write_far(*mcs, *reach, report),
     }

@@ -13,6 +13,8 @@ pub enum Status {
     BadWords,
     /// The input is no file that can be read.
     BadFile,
+    /// The box has too little room for the start.
+    NoRoom,
     /// Reading the input failed.
     ReadFault,
     /// Writing the output failed.
@@ -46,6 +48,7 @@ impl Status {
             Status::Done => 0,
             Status::BadWords => 2,
             Status::BadFile => 3,
+            Status::NoRoom => 4,
             Status::ReadFault => 5,
             Status::WriteFault => 6,
             Status::Memory => 7,
@@ -69,8 +72,10 @@ fn ending_status(ending: &Ending) -> Status
     match ending {
         Ending::Ran(_) => Status::Done,
         Ending::Answered => Status::Done,
+        Ending::Built => Status::Done,
         Ending::BadWords(_) => Status::BadWords,
         Ending::BadFile(_) => Status::BadFile,
+        Ending::NoRoom { .. } => Status::NoRoom,
         Ending::TooLong(_) => Status::TooLong,
         Ending::TooFar { .. } => Status::TooFar,
     }

@@ -1,19 +1,24 @@
 ghost use Rattle.std.specs.Prelude.{◌≡◌, ◌≢◌, ◌≤◌, ◌⊎◌, ℕ, List, Result, map, string_bytes, IsErr, IfOk, IfSome, Ok, true};
+ghost use Rattle.bfm_base.specs.Account.{Delivered};
+ghost use Rattle.bfm_world.specs.Configuration.{IsValid};
 ghost use Rattle.std.specs.Io.KnownBytes.{Appends, IsAtEnd};
 ghost use Rattle.bfm_base.specs.Faults.{Rose};
 ghost use Rattle.bfm_base.specs.declared.limits.TheConstants.{GREATEST_LIMIT, GREATEST_MCS, MOST_FRAMES, MOST_SWEEPS};
 ghost use Rattle.crossing_check.specs.declared.judgement.SetVerdict.{SetVerdict};
 ghost use Rattle.bfm_commands.specs.Verdict.{verdict_of};
 ghost use Rattle.bfm_session.specs.Loading.{supply};
-ghost use Rattle.bfm_cli.specs.Job.{job_of, IsInRange};
+ghost use Rattle.bfm_cli.specs.Job.{job_of, IsFileJob};
+ghost use Rattle.bfm_cli.specs.Start.{need_of, room_of, start_text, world_of};
+ghost use Rattle.bfm_cli.specs.declared.start.Start.{Start};
 ghost use Rattle.bfm_cli.specs.Ending.{status_of};
 ghost use Rattle.bfm_cli.specs.Outcome.{JudgesInput, JudgesSetOf, first_crossing, limit_of, outcome_of};
-ghost use Rattle.bfm_cli.specs.Promise.{DoesAccepted, DoesOver, Tells, HasValidRun, scene};
+ghost use Rattle.bfm_cli.specs.Promise.{DoesAccepted, DoesOver, Tells, HasValidWorlds, NeedsNoInput, scene};
 ghost use Rattle.bfm_cli.specs.declared.ending.Ending.{Ending};
 ghost use Rattle.bfm_cli.specs.declared.ending.Fault.{Fault};
 
+use crate::building::build;
 use crate::ending::{Ending, Fault, RunReport};
-use crate::job::{Job, job_of};
+use crate::job::{FileJob, Job, job_of};
 use crate::report::tell;
 use crate::status::Status;
 use bfm_base::{Sink, Source};
@@ -43,15 +48,20 @@ pub fn run_tool<I: Source, O: Sink, P: Sink>(
         → IfSome (I.left input.old) (λ bytes. (verdict : SetVerdict) → let outcome = outcome_of (map string_bytes words.now) bytes verdict in
         (result ≡ status_of outcome.ending) ⊎ ((result ≡ Status.Memory) × (status_of outcome.ending ≢ Status.BadWords))) }
 
-    // Done means that all of it was done: the whole input was read, the output is whole and flushed.
+    // Done means that all of it was done: the output is whole and flushed, and a job that reads a file has read the whole input.
     ensures done { result ≡ Status.Done → IfSome (I.left input.old) (λ bytes. (verdict : SetVerdict) × JudgesInput (job_of (map string_bytes words.now)) bytes verdict
         × let outcome = outcome_of (map string_bytes words.now) bytes verdict in
         (status_of outcome.ending ≡ Status.Done) × Appends (O.account output.old).taken (O.account output.new).taken outcome.output) }
-    ensures done_reads_all { result ≡ Status.Done → IsAtEnd (I.left input.new) }
+    ensures done_reads_all { result ≡ Status.Done → NeedsNoInput (job_of (map string_bytes words.now)) ⊎ IsAtEnd (I.left input.new) }
     ensures done_flushes { result ≡ Status.Done → (O.account output.new).flushed ≡ true }
 
-    // Each state of a run that was begun is a valid world.
-    ensures states { (result ≡ Status.Done) ⊎ (result ≡ Status.WriteFault) → IfSome (I.left input.old) (λ bytes. HasValidRun (job_of (map string_bytes words.now)) bytes) }
+    // Each state of a run that was begun is a valid world, and so is a start that was built.
+    ensures states { (result ≡ Status.Done) ⊎ (result ≡ Status.WriteFault) → IfSome (I.left input.old) (λ bytes. HasValidWorlds (job_of (map string_bytes words.now)) bytes) }
+
+    // What needs no input leaves it alone, wrong words and starts. A start that is done was written whole, of a valid world for which there is room.
+    ensures unread { NeedsNoInput (job_of (map string_bytes words.now)) → input.new ≡ input.old }
+    ensures built { result ≡ Status.Done → (start : Start) → job_of (map string_bytes words.now) ≡ Ok (Job.Build start)
+        → (need_of start ≤ room_of start) × IsValid (world_of start) × Delivered (O.account output.old) (O.account output.new) (start_text (world_of start)) }
 
     // Two verdicts on the set of one file differ in their weights alone.
     ensures one_verdict { (bytes : List ℕ) (a b : SetVerdict) → JudgesSetOf bytes a → JudgesSetOf bytes b → IfOk (verdict_of bytes) (λ _. first_crossing a ≡ first_crossing b) }
@@ -76,20 +86,21 @@ fn work<I: Source, O: Sink>(
         (O.account output.old) (O.account output.new) (output.new ≡ output.old)) }
 {
     match job_of(words) {
-        Ok(job) => run_job(alloc, &job, input, output),
+        Ok(Job::File(job)) => do_file(alloc, &job, input, output),
+        Ok(Job::Build(start)) => build(alloc, &start, output),
         Err(word) => Ok(Ending::BadWords(word)),
     }
 }
 
 /// Reads an input to its end, and does a job with what it holds.
-fn run_job<I: Source, O: Sink>(
+fn do_file<I: Source, O: Sink>(
     alloc: Global,
-    job: &Job,
+    job: &FileJob,
     input: &mut I,
     output: &mut O,
 ) -> Result<Ending, Fault>
-    requires { IsInRange job.now }
-    ensures { DoesOver result (Ok job.now)
+    requires { IsFileJob job.now }
+    ensures { DoesOver result (Ok (Job.File job.now))
         (scene (supply (I.left input.old) (I.faults input.old)) (supply (I.left input.new) (I.faults input.new)) (input.new ≡ input.old)
         (O.account output.old) (O.account output.new) (output.new ≡ output.old)) }
 {
@@ -104,32 +115,32 @@ fn run_job<I: Source, O: Sink>(
 }
 
 /// How many bytes of its input a job reads at most, 0 to 2^30.
-fn limit_of(job: &Job) -> u64
-    requires { IsInRange job.now }
+fn limit_of(job: &FileJob) -> u64
+    requires { IsFileJob job.now }
     ensures value { result ≡ limit_of job.now }
     ensures range { result ≤ GREATEST_LIMIT }
 {
     match job {
-        Job::Run(order) => order.limit,
-        Job::Look { limit, .. } => *limit,
+        FileJob::Run(order) => order.limit,
+        FileJob::Look { limit, .. } => *limit,
     }
 }
 
 /// Does a job with a file that was accepted.
 fn do_accepted<O: Sink>(
     alloc: Global,
-    job: &Job,
+    job: &FileJob,
     loaded: Loaded,
     kept: &[u8],
     output: &mut O,
 ) -> Result<Ending, Fault>
-    requires range { IsInRange job.now }
+    requires range { IsFileJob job.now }
     requires mcs { loaded.mcs ≤ GREATEST_MCS }
     ensures { DoesAccepted result job.now loaded kept.now (O.account output.old) (O.account output.new) (output.new ≡ output.old) }
 {
     match job {
-        Job::Run(order) => run_accepted(order, loaded, kept, output),
-        Job::Look { ask, .. } => look_at_accepted(alloc, ask, &loaded, output),
+        FileJob::Run(order) => run_accepted(order, loaded, kept, output),
+        FileJob::Look { ask, .. } => look_at_accepted(alloc, ask, &loaded, output),
     }
 }
 
@@ -140,7 +151,7 @@ fn look_at_accepted<O: Sink>(
     loaded: &Loaded,
     output: &mut O,
 ) -> Result<Ending, Fault>
-    ensures { (kept : List ℕ) (limit : ℕ) → DoesAccepted result (Job.Look ask.now limit) loaded.now kept (O.account output.old) (O.account output.new) (output.new ≡ output.old) }
+    ensures { (kept : List ℕ) (limit : ℕ) → DoesAccepted result (FileJob.Look ask.now limit) loaded.now kept (O.account output.old) (O.account output.new) (output.new ≡ output.old) }
 {
     match analyse(alloc, loaded, ask, output) {
         Ok(()) => Ok(Ending::Answered),
@@ -159,7 +170,7 @@ fn run_accepted<O: Sink>(
     requires frames { order.now.frames ≤ MOST_FRAMES }
     requires every { order.now.every ≤ MOST_SWEEPS }
     requires mcs { loaded.mcs ≤ GREATEST_MCS }
-    ensures { DoesAccepted result (Job.Run order.now) loaded kept.now (O.account output.old) (O.account output.new) (output.new ≡ output.old) }
+    ensures { DoesAccepted result (FileJob.Run order.now) loaded kept.now (O.account output.old) (O.account output.new) (output.new ≡ output.old) }
 {
     let (kept_length, skipped) = (loaded.kept, loaded.skipped);
     match run(loaded, kept, order, output) {

@@ -1,4 +1,4 @@
-ghost use Rattle.std.specs.Prelude.{◌≡◌, ◌-◌, ◌^◌, ◌<◌, [], length, map, string_bytes, IfSome};
+ghost use Rattle.std.specs.Prelude.{◌≡◌, ◌-◌, ◌^◌, ◌<◌, ◌≤◌, [], length, map, string_bytes, IfSome};
 ghost use Rattle.std.specs.Char.{is_ascii_digit};
 ghost use Rattle.std.specs.List.{list_all};
 ghost use Rattle.bfm_lexer.specs.Numbers.{natural_of};
@@ -33,7 +33,8 @@ fn are_digits(text: &[u8]) -> bool
 
 /// The number that a word gives a key.
 fn given(key: &Key, word: &str) -> Option<u64>
-    ensures { result ≡ given (key_of key.now) word.now }
+    ensures number { result ≡ given (key_of key.now) word.now }
+    ensures range { IfSome result (λ n. (key.now.least ≤ n) × (n ≤ key.now.greatest)) }
 {
     let (name, digits) = word.split_once('=')?;
     if name != key.name {
@@ -50,7 +51,8 @@ fn given(key: &Key, word: &str) -> Option<u64>
 
 /// The number that the first of the words which give one gives a key.
 fn given_by(key: &Key, words: &[String]) -> Option<u64>
-    ensures { result ≡ given_by (key_of key.now) (map string_bytes words.now) }
+    ensures number { result ≡ given_by (key_of key.now) (map string_bytes words.now) }
+    ensures range { IfSome result (λ n. (key.now.least ≤ n) × (n ≤ key.now.greatest)) }
 {
     for word in words {
         let number = given(key, word.as_str());
@@ -95,7 +97,9 @@ pub fn first_wrong(keys: &[Key], words: &[String]) -> Option<u64>
 
 /// The number of a key: a word gives it, or it is the usual one.
 pub fn number_for(key: &Key, words: &[String]) -> Option<u64>
-    ensures { result ≡ number_for (key_of key.now) (map string_bytes words.now) }
+    ensures number { result ≡ number_for (key_of key.now) (map string_bytes words.now) }
+    ensures range { IfSome key.now.usual (λ n. (key.now.least ≤ n) × (n ≤ key.now.greatest))
+        → IfSome result (λ n. (key.now.least ≤ n) × (n ≤ key.now.greatest)) }
 {
     given_by(key, words).or(key.usual)
 }

@@ -7,8 +7,8 @@ ghost use Rattle.brush_builder.specs.Brush.{feet_along, feet_in, room_above, pla
 use bfm_base::{P3, Shape};
 use bfm_world::WorldBuilder;
 
-/// How many feet stand in the box, so far apart.
-pub(crate) fn feet_in(shape: &Shape, spacing: u32) -> u32
+/// How many feet stand in the box, so far apart (2 to 512 lattice units).
+pub fn feet_in(shape: &Shape, spacing: u32) -> u32
     requires { 0 < spacing }
     ensures { result ≡ feet_in shape.now spacing }
 {

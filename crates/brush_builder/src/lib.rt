@@ -10,3 +10,4 @@ mod feet;
 mod tests;
 
 pub use brushes::brush;
+pub use feet::feet_in;

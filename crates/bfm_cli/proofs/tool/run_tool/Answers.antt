@@ -1,5 +1,6 @@
 use Rattle.bfm_commands.specs.Verdict.{verdict_of}
-use Rattle.bfm_cli.proofs.OutcomeLemmas.{outcome-told, words-only, words-told}
+use Rattle.bfm_cli.proofs.OutcomeLemmas.{NeedsNoInput-words, outcome-told, reads-all, unread-by, words-only, words-told}
+use Rattle.bfm_cli.proofs.StartLemmas.{built-told}
 use Rattle.bfm_cli.proofs.VerdictLemmas.{JudgesSet-one}
 use Rattle.bfm_cli.proofs.tool.run_tool.Goals as goal
 
@@ -7,10 +8,21 @@ pub returns-clause-outcome : goal.returns-clause-outcome
 returns-clause-outcome g c calm_in calm_out calm_report =
     outcome-told c.work-ended.result _ _ c.tell.result _ _ _ c.work-ended.ensures c.tell.ensures calm_in calm_out calm_report
 
+pub returns-clause-done_reads_all : goal.returns-clause-done_reads_all
+returns-clause-done_reads_all g c done = reads-all c.work-ended.result _ _ c.tell.result _ _ _ c.work-ended.ensures c.tell.ensures done
+
+pub returns-clause-unread : goal.returns-clause-unread
+returns-clause-unread g c needs_none = unread-by c.work-ended.result _ _ c.work-ended.ensures needs_none
+
+pub returns-clause-built : goal.returns-clause-built
+returns-clause-built g c done start job =
+    built-told c.work-ended.result _ start _ c.tell.result _ _ _ job c.work-ended.ensures c.tell.ensures done
+
 pub returns-clause-one_verdict : goal.returns-clause-one_verdict
 returns-clause-one_verdict g c bytes a b p q = JudgesSet-one (verdict_of bytes) a b p q
 
 pub returns-clause-bad_words : goal.returns-clause-bad_words
 returns-clause-bad_words g c wrong =
     let bad = words-only c.work-ended.result _ _ c.work-ended.ensures wrong in
-    words-told c.work-ended.result bad.0 _ _ c.tell.result _ _ _ bad.1 c.work-ended.ensures c.tell.ensures
+    let told = words-told c.work-ended.result bad.0 _ _ c.tell.result _ _ _ bad.1 c.work-ended.ensures c.tell.ensures in
+    (told.0, unread-by c.work-ended.result _ _ c.work-ended.ensures (NeedsNoInput-words _ wrong), told.1)

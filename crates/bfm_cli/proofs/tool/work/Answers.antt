@@ -1,11 +1,27 @@
-use Rattle.std.proofs.Common.{[], ◌∙◌, ◌≡◌, Err, refl, sym, ap, subst, map, string_bytes}
+use Rattle.std.proofs.Common.{[], ◌∙◌, ◌≡◌, Err, Ok, refl, sym, ap, subst, map, string_bytes}
 use Rattle.crossing_check.specs.declared.judgement.SetVerdict.TheVariants.{Free}
-use Rattle.bfm_session.specs.Loading.{Takes, supply}
+use Rattle.bfm_session.specs.Loading.{supply}
 use Rattle.bfm_cli.specs.Job.{job_of}
 use Rattle.bfm_cli.specs.Outcome.{job_outcome}
-use Rattle.bfm_cli.specs.Promise.{limit_in}
-use Rattle.bfm_cli.proofs.InputLemmas.{Holds-some, Takes-nothing}
+use Rattle.bfm_cli.specs.Promise.{DoesOver, Uses, scene}
+use Rattle.bfm_cli.specs.declared.job.Job.TheVariants.{Build}
+use Rattle.bfm_cli.specs.declared.ending.Ending.TheVariants.{BadWords}
+use Rattle.bfm_cli.proofs.InputLemmas.{Holds-some}
+use Rattle.bfm_cli.proofs.OutcomeLemmas.{words-unread}
+use Rattle.bfm_cli.proofs.StartLemmas.{DoesOver-built}
 use Rattle.bfm_cli.proofs.tool.work.Goals as goal
+
+pub returns-in-Ok-Build : goal.returns-in-Ok-Build
+returns-in-Ok-Build g c =
+    let input = supply (g.I.Source.left c.args.input.now) (g.I.Source.faults c.args.input.now) in
+    let same = c.args.input.now ≡ c.args.input.now in
+    let before = g.O.Sink.account c.args.output.now in
+    let after = g.O.Sink.account c.build.new.output in
+    let unwritten = c.build.new.output ≡ c.args.output.now in
+    let some = Holds-some (g.I.Source.left c.args.input.now) in
+    let job : job_of (map string_bytes c.args.words.now) ≡ Ok (Build c.in-Ok-Build.start) = sym c.job_of.ensures.job ∙ (c.in-Ok-Build.is ∙ ap Ok c.in-Ok-Build.field-0-is) in
+    subst (λ job. DoesOver c.build.result job (scene input input same before after unwritten)) (sym job)
+    (DoesOver-built c.build.result c.in-Ok-Build.start some.0 Free input same before after unwritten some.1 refl c.build.ensures)
 
 pub returns-in-Err : goal.returns-in-Err
 returns-in-Err g c =
@@ -18,11 +34,8 @@ returns-in-Err g c =
       taken = [];
       verdict = Free;
       judged = λ none. absurd none;
-      does = record {
-        agrees = ap (λ job. (job_outcome job some.0 Free).ending) (sym wrong);
-        takes = subst (λ job. Takes (limit_in job) input input []) (sym wrong) (Takes-nothing input);
-        reads = refl;
-        writes = refl;
-      };
-      states = λ none. absurd none;
+      agrees = ap (λ job. (job_outcome job some.0 Free).ending) (sym wrong);
+      uses = subst (λ job. Uses job (Ok (BadWords c.in-Err.word)) [] input input (c.args.input.now ≡ c.args.input.now)) (sym wrong) (refl, words-unread (Ok (BadWords c.in-Err.word)) c.in-Err.word refl);
+      writes = refl;
+      worlds = λ none. absurd none;
     }

@@ -4,18 +4,18 @@ use Rattle.bfm_cli.specs.Words.{given, given_by}
 use Rattle.bfm_cli.proofs.WordLemmas.{next_text, given_by-here, given_by-later}
 use Rattle.bfm_cli.proofs.words.given_by.Goals as goal
 
-pub returns-then-is_some : goal.returns-then-is_some
-returns-then-is_some c =
+pub returns-then-is_some-clause-number : goal.returns-then-is_some-clause-number
+returns-then-is_some-clause-number c =
     let key = key_of c.args.key.now in
     let word = c.as_str.result.now in
     let next = next_text string_bytes c.args.words.now c.loop-word.word-index c.word-item.result word c.loop-word-test.true c.word-item.is c.as_str.ensures.value in
-    let some : is_some (given key word) ≡ true = ap is_some (sym c.given-number.ensures) ∙ (sym c.is_some.ensures ∙ c.if-is_some.true) in
-    c.given-number.ensures ∙ (sym (given_by-here key word (drop (c.loop-word.word-index + 1) (map string_bytes c.args.words.now)) some) ∙ (ap (given_by key) (sym next) ∙ c.loop-word.invariant))
+    let some : is_some (given key word) ≡ true = ap is_some (sym c.given-number.ensures.number) ∙ (sym c.is_some.ensures ∙ c.if-is_some.true) in
+    c.given-number.ensures.number ∙ (sym (given_by-here key word (drop (c.loop-word.word-index + 1) (map string_bytes c.args.words.now)) some) ∙ (ap (given_by key) (sym next) ∙ c.loop-word.invariant))
 
 pub loop-word-preserved : goal.loop-word-preserved
 loop-word-preserved c =
     let key = key_of c.args.key.now in
     let word = c.as_str.result.now in
     let next = next_text string_bytes c.args.words.now c.loop-word.word-index c.word-item.result word c.loop-word-test.true c.word-item.is c.as_str.ensures.value in
-    let none : is_some (given key word) ≡ false = ap is_some (sym c.given-number.ensures) ∙ (sym c.is_some.ensures ∙ c.if-is_some.false) in
+    let none : is_some (given key word) ≡ false = ap is_some (sym c.given-number.ensures.number) ∙ (sym c.is_some.ensures ∙ c.if-is_some.false) in
     sym (given_by-later key word (drop (c.loop-word.word-index + 1) (map string_bytes c.args.words.now)) none) ∙ (ap (given_by key) (sym next) ∙ c.loop-word.invariant)

@@ -3,11 +3,12 @@ use Rattle.crossing_check.specs.declared.judgement.SetVerdict.TheVariants.{Free}
 use Rattle.bfm_session.specs.Loading.{IsShown, supply}
 use Rattle.bfm_session.proofs.LimitLemmas.{limited-accepted}
 use Rattle.bfm_cli.specs.Outcome.{Outcome, file_outcome, limit_of}
+use Rattle.bfm_cli.specs.declared.job.Job.TheVariants.{File}
 use Rattle.bfm_cli.specs.Promise.{Agrees, Writes}
 use Rattle.bfm_cli.proofs.InputLemmas.{IsLoaded-limit, Stops-limit, Holds-some, Holds-whole, Holds-shown, Holds-long}
-use Rattle.bfm_cli.proofs.OutcomeLemmas.{JudgesInput-loaded, HasValidRun-loaded, job_outcome-loaded, job_outcome-words, Reads-accepted}
+use Rattle.bfm_cli.proofs.OutcomeLemmas.{JudgesInput-loaded, HasValidWorlds-loaded, job_outcome-loaded, job_outcome-words, Reads-accepted}
 use Rattle.bfm_cli.specs.declared.ending.Ending.TheVariants.{BadFile, TooLong}
-use Rattle.bfm_cli.proofs.tool.run_job.Goals as goal
+use Rattle.bfm_cli.proofs.tool.do_file.Goals as goal
 
 pub returns-in-Ok : goal.returns-in-Ok
 returns-in-Ok g c =
@@ -28,13 +29,10 @@ returns-in-Ok g c =
       taken = taken;
       verdict = did.verdict;
       judged = λ begun. JudgesInput-loaded job taken loaded did.verdict whole (did.judged begun);
-      does = record {
-        agrees = subst (Agrees c.do_accepted.result) (sym same) did.agrees;
-        takes = read.takes;
-        reads = Reads-accepted c.do_accepted.result _ taken _ _ _ did.read read.read;
-        writes = subst write (sym same) did.writes;
-      };
-      states = λ _. HasValidRun-loaded job taken loaded c.in-Ok.ensures.valid whole;
+      agrees = subst (Agrees c.do_accepted.result) (sym same) did.agrees;
+      uses = (read.takes, Reads-accepted c.do_accepted.result _ taken _ _ did.of_file read.read);
+      writes = subst write (sym same) did.writes;
+      worlds = λ _. HasValidWorlds-loaded job taken loaded c.in-Ok.ensures.valid whole;
     }
 
 pub returns-in-Err-Refused : goal.returns-in-Err-Refused
@@ -51,13 +49,10 @@ returns-in-Err-Refused g c =
       taken = stopped.0;
       verdict = Free;
       judged = λ none. absurd none;
-      does = record {
-        agrees = ap BadFile c.in-Err-Refused.refused-is ∙ sym (ap (λ file. (file_outcome job all.0 Free file).ending) all.2);
-        takes = stopped.1;
-        reads = (why.2, subst (λ wrong. IsShown wrong (limit_of job) stopped.0 (g.I.Source.left c.load.new.input)) (sym c.in-Err-Refused.refused-is) why.1);
-        writes = refl;
-      };
-      states = λ none. absurd none;
+      agrees = ap BadFile c.in-Err-Refused.refused-is ∙ sym (ap (λ file. (file_outcome job all.0 Free file).ending) all.2);
+      uses = (stopped.1, (why.2, subst (λ wrong. IsShown wrong (limit_of job) stopped.0 (g.I.Source.left c.load.new.input)) (sym c.in-Err-Refused.refused-is) why.1));
+      writes = refl;
+      worlds = λ none. absurd none;
     }
 
 pub returns-in-Err-TooLong : goal.returns-in-Err-TooLong
@@ -73,13 +68,10 @@ returns-in-Err-TooLong g c =
       taken = stopped.0;
       verdict = Free;
       judged = λ none. absurd none;
-      does = record {
-        agrees = ap TooLong c.limit_of-limit.ensures.value ∙ sym (ap (λ file. (file_outcome job all.0 Free file).ending) all.2);
-        takes = stopped.1;
-        reads = (stopped.2.1, stopped.2.0);
-        writes = refl;
-      };
-      states = λ none. absurd none;
+      agrees = ap TooLong c.limit_of-limit.ensures.value ∙ sym (ap (λ file. (file_outcome job all.0 Free file).ending) all.2);
+      uses = (stopped.1, (stopped.2.1, stopped.2.0));
+      writes = refl;
+      worlds = λ none. absurd none;
     }
 
 pub returns-in-Err-ReadFault : goal.returns-in-Err-ReadFault
@@ -94,13 +86,10 @@ returns-in-Err-ReadFault g c =
       taken = stopped.0;
       verdict = Free;
       judged = λ none. absurd none;
-      does = record {
-        agrees = job_outcome-words c.args.job.now some.0 Free;
-        takes = stopped.1;
-        reads = (stopped.2.1, stopped.2.0);
-        writes = refl;
-      };
-      states = λ none. absurd none;
+      agrees = job_outcome-words (File c.args.job.now) some.0 Free;
+      uses = (stopped.1, (stopped.2.1, stopped.2.0));
+      writes = refl;
+      worlds = λ none. absurd none;
     }
 
 pub returns-in-Err-Memory : goal.returns-in-Err-Memory
@@ -115,11 +104,8 @@ returns-in-Err-Memory g c =
       taken = stopped.0;
       verdict = Free;
       judged = λ none. absurd none;
-      does = record {
-        agrees = job_outcome-words c.args.job.now some.0 Free;
-        takes = stopped.1;
-        reads = stopped.2;
-        writes = refl;
-      };
-      states = λ none. absurd none;
+      agrees = job_outcome-words (File c.args.job.now) some.0 Free;
+      uses = (stopped.1, stopped.2);
+      writes = refl;
+      worlds = λ none. absurd none;
     }

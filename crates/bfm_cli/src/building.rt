@@ -1,0 +1,68 @@
+ghost use Rattle.std.specs.Prelude.{◌≡◌, ◌<◌, ◌≤◌, Err, IfErr, IfOk};
+ghost use Rattle.bfm_base.specs.Account.{Delivers, Sends};
+ghost use Rattle.bfm_world.specs.Configuration.{IsValid};
+ghost use Rattle.bfm_cli.specs.Promise.{DoesBuilt};
+ghost use Rattle.bfm_cli.specs.Start.{need_of, room_of, start_text, world_of, IsStart};
+
+use crate::ending::{Ending, Fault};
+use crate::start::Start;
+use bfm_base::{Failed, Sink};
+use bfm_world::{BuildFault, World};
+use bfm_writer::{group, header};
+use brush_builder::brush;
+use melt_builder::melt;
+use std::alloc::Global;
+
+/// Builds a start and writes its file, and flushes. The output is called only once the start stands,
+/// so where there is no room for it, or no memory, nothing is written.
+pub fn build<O: Sink>(alloc: Global, start: &Start, output: &mut O) -> Result<Ending, Fault>
+    requires { IsStart start.now }
+    ensures { DoesBuilt result start.now (O.account output.old) (O.account output.new) (output.new ≡ output.old) }
+{
+    match world_of(alloc, start) {
+        Ok(world) => match write_start(&world, output) {
+            Ok(()) => Ok(Ending::Built),
+            Err(_) => Err(Fault::Write),
+        },
+        Err(BuildFault::NoRoom { need, have }) => Ok(Ending::NoRoom { need, have }),
+        Err(BuildFault::Memory) => Err(Fault::Memory),
+    }
+}
+
+/// The world of a start. It is refused exactly where it needs more room than there is.
+fn world_of(alloc: Global, start: &Start) -> Result<World, BuildFault>
+    requires { IsStart start.now }
+    ensures no_room { room_of start.now < need_of start.now → result ≡ Err (BuildFault.NoRoom (need_of start.now) (room_of start.now)) }
+    ensures room { need_of start.now ≤ room_of start.now → IfErr result (λ fault. fault ≡ BuildFault.Memory) }
+    ensures world { IfOk result (λ world. world ≡ world_of start.now) }
+    ensures valid { IfOk result IsValid }
+{
+    match start {
+        Start::Melt {
+            shape,
+            chains,
+            length,
+        } => melt(alloc, *shape, *chains, *length),
+        Start::Brush {
+            shape,
+            spacing,
+            length,
+        } => brush(alloc, *shape, *spacing, *length),
+    }
+}
+
+/// Writes the file of a start, and flushes.
+fn write_start<O: Sink>(world: &World, output: &mut O) -> Result<(), Failed>
+    ensures { Delivers result (O.account output.old) (O.account output.new) (start_text world.now) }
+{
+    write_text(world, output)?;
+    output.flush()
+}
+
+/// Writes the file of a start: its header, and one frame at time 0.
+fn write_text<O: Sink>(world: &World, output: &mut O) -> Result<(), Failed>
+    ensures { Sends result (O.account output.old) (O.account output.new) (start_text world.now) }
+{
+    header(world, output)?;
+    group(world, 0, &[], output)
+}
