@@ -3,4 +3,5 @@ pub mod LimitLemmas
 mod LoadLemmas
 pub mod ReadBackLines
 pub mod ReadBackNumbers
+pub mod ReadBackRows
 mod TextLemmas
