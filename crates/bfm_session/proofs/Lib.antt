@@ -1,7 +1,16 @@
 mod InfoLemmas
 pub mod LimitLemmas
 mod LoadLemmas
+pub mod ReadBackEntries
+pub mod ReadBackHeader
 pub mod ReadBackLines
+pub mod ReadBackListed
+pub mod ReadBackLists
+pub mod ReadBackMeanings
 pub mod ReadBackNumbers
+pub mod ReadBackPlain
 pub mod ReadBackRows
+pub mod ReadBackVectors
+pub mod ReadBackWalk
+pub mod ReadBackWorld
 mod TextLemmas

@@ -1,5 +1,5 @@
 -- Text that is written row by row has those rows as its lines.
-use Rattle.std.proofs.Common.{◌≡◌, ℕ, ◌-◌, ◌^◌, ◌<◌, ◌≤◌, Bool, true, false, not, ◌&&◌, nat_eq, List, [], ◌∷◌, ◌++◌, length, get_or, flat_map, ℤ, pos, negsuc, nat_abs, zero, suc, decimal, refl, sym, ap, ◌∙◌, append_assoc, arith}
+use Rattle.std.proofs.Common.{◌≡◌, ℕ, ◌-◌, ◌^◌, ◌<◌, ◌≤◌, Bool, true, false, not, ◌&&◌, nat_eq, List, [], ◌∷◌, ◌++◌, length, get_or, flat_map, map, ℤ, pos, negsuc, nat_abs, zero, suc, decimal, refl, sym, ap, ◌∙◌, append_assoc, arith}
 use Rattle.std.specs.Fmt.{signed_decimal}
 use Rattle.std.specs.List.{list_all, AllByRecursion}
 use Rattle.std.specs.Char.{digit_value}
@@ -100,11 +100,20 @@ finished_lines-rows (row ∷ rows) rest each =
     ∙ finished_lines-line row (text_of rows ++ rest) (finished_lines-none row (plain_newline row each.0.plain))
     ∙ ap (λ l. row ∷ l) (finished_lines-rows rows rest each.1)
 
--- Rows of which each is one.
-pub each-append : (xs ys : List (List ℕ)) → AllByRecursion IsRow xs → AllByRecursion IsRow ys → AllByRecursion IsRow (xs ++ ys)
-each-append [] ys a b = b
-each-append (x ∷ xs) ys a b = (a.0, each-append xs ys a.1 b)
+-- What holds of each of some things.
 
-pub each-flat_map : {X : Type 0} (P : X → Type 0) (g : X → List (List ℕ)) (xs : List X) → AllByRecursion P xs → ((x : X) → P x → AllByRecursion IsRow (g x)) → AllByRecursion IsRow (flat_map g xs)
-each-flat_map P g [] all each = tt
-each-flat_map P g (x ∷ xs) all each = each-append (g x) (flat_map g xs) (each x all.0) (each-flat_map P g xs all.1 each)
+pub each-append : {X : Type 0} (P : X → Type 0) (xs ys : List X) → AllByRecursion P xs → AllByRecursion P ys → AllByRecursion P (xs ++ ys)
+each-append P [] ys a b = b
+each-append P (x ∷ xs) ys a b = (a.0, each-append P xs ys a.1 b)
+
+pub each-flat_map : {X Y : Type 0} (P : X → Type 0) (Q : Y → Type 0) (g : X → List Y) (xs : List X) → AllByRecursion P xs → ((x : X) → P x → AllByRecursion Q (g x)) → AllByRecursion Q (flat_map g xs)
+each-flat_map P Q g [] all step = tt
+each-flat_map P Q g (x ∷ xs) all step = each-append Q (g x) (flat_map g xs) (step x all.0) (each-flat_map P Q g xs all.1 step)
+
+pub each-map : {X Y : Type 0} (P : X → Type 0) (Q : Y → Type 0) (f : X → Y) (xs : List X) → AllByRecursion P xs → ((x : X) → P x → Q (f x)) → AllByRecursion Q (map f xs)
+each-map P Q f [] all step = tt
+each-map P Q f (x ∷ xs) all step = (step x all.0, each-map P Q f xs all.1 step)
+
+pub each-weaker : {X : Type 0} (P Q : X → Type 0) (xs : List X) → AllByRecursion P xs → ((x : X) → P x → Q x) → AllByRecursion Q xs
+each-weaker P Q [] all step = tt
+each-weaker P Q (x ∷ xs) all step = (step x all.0, each-weaker P Q xs all.1 step)
