@@ -6,10 +6,12 @@ pub mod ReadBackHeader
 pub mod ReadBackLines
 pub mod ReadBackListed
 pub mod ReadBackLists
+pub mod ReadBackMarks
 pub mod ReadBackMeanings
 pub mod ReadBackNumbers
 pub mod ReadBackPlain
 pub mod ReadBackRows
+pub mod ReadBackSettings
 pub mod ReadBackVectors
 pub mod ReadBackWalk
 pub mod ReadBackWorld
