@@ -1,6 +1,7 @@
 mod InfoLemmas
 pub mod LimitLemmas
 mod LoadLemmas
+pub mod ReadBackBonds
 pub mod ReadBackEntries
 pub mod ReadBackHeader
 pub mod ReadBackLines
