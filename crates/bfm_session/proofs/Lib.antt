@@ -10,8 +10,10 @@ pub mod ReadBackLists
 pub mod ReadBackMarks
 pub mod ReadBackMeanings
 pub mod ReadBackNumbers
+pub mod ReadBackPlacing
 pub mod ReadBackPlain
 pub mod ReadBackRows
+pub mod ReadBackRowsOf
 pub mod ReadBackSettings
 pub mod ReadBackVectors
 pub mod ReadBackWalk
