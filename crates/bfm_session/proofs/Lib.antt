@@ -2,7 +2,9 @@ mod InfoLemmas
 pub mod LimitLemmas
 mod LoadLemmas
 pub mod ReadBackBonds
+pub mod ReadBackEach
 pub mod ReadBackEntries
+pub mod ReadBackFrame
 pub mod ReadBackHeader
 pub mod ReadBackLines
 pub mod ReadBackListed
@@ -15,6 +17,7 @@ pub mod ReadBackPlain
 pub mod ReadBackRows
 pub mod ReadBackRowsOf
 pub mod ReadBackSettings
+pub mod ReadBackTime
 pub mod ReadBackVectors
 pub mod ReadBackWalk
 pub mod ReadBackWorld

@@ -50,7 +50,7 @@ fixed_said set pairs labels valences owner given fixed =
 -- One entry of each list.
 
 -- a vector of a bond set and its identifier are short
-vector_short : (whole done rest : List (P3 × ℕ)) (e : P3 × ℕ) → IsBondSet whole → done ++ e ∷ rest ≡ whole → (extent_of e.0 ≤ 3) × (e.1 ≤ 255)
+pub vector_short : (whole done rest : List (P3 × ℕ)) (e : P3 × ℕ) → IsBondSet whole → done ++ e ∷ rest ≡ whole → (extent_of e.0 ≤ 3) × (e.1 ≤ 255)
 vector_short whole done rest e ok is =
     let set : IsBondSet (done ++ e ∷ rest) = subst IsBondSet (sym is) ok in
     let vector : is_bond_vector e.0 ≡ true = All-image (λ v. is_bond_vector v ≡ true) (λ (p : P3 × ℕ). p.0) done e rest set.vectors in

@@ -2,4 +2,4 @@ mod BatchLemmas
 mod ListingLemmas
 mod RowLemmas
 mod RowExamples
-mod RowPositions
+pub mod RowPositions
