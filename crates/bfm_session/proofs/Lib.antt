@@ -1,6 +1,7 @@
 mod InfoLemmas
 pub mod LimitLemmas
 mod LoadLemmas
+pub mod ReadBackBonded
 pub mod ReadBackBonds
 pub mod ReadBackEach
 pub mod ReadBackEntries
@@ -20,5 +21,6 @@ pub mod ReadBackSettings
 pub mod ReadBackTime
 pub mod ReadBackVectors
 pub mod ReadBackWalk
+pub mod ReadBackWhole
 pub mod ReadBackWorld
 mod TextLemmas

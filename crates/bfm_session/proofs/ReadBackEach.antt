@@ -1,7 +1,6 @@
 -- Each row that is written of a valid world is one.
-use Rattle.std.proofs.Common.{◌≡◌, ℕ, ◌+◌, ◌^◌, ◌<◌, ◌≤◌, true, Bool, List, [], ◌∷◌, ◌++◌, length, map, refl, append_assoc, ◌∙◌, arith}
+use Rattle.std.proofs.Common.{◌≡◌, ℕ, ◌^◌, ◌<◌, ◌≤◌, true, false, Bool, List, [], ◌∷◌, ◌++◌, length, map, refl, append_assoc, ◌∙◌, arith}
 use Rattle.std.specs.List.{AllByRecursion}
-use Rattle.std.proofs.lemmas.Bool.Decides.{nat_tests}
 use Rattle.bfm_base.specs.declared.place.P3.{P3}
 use Rattle.bfm_base.specs.declared.limits.TheConstants.{GREATEST_LABEL, GREATEST_VALENCE}
 use Rattle.bfm_geom.specs.Difference.{side_of, is_periodic}
@@ -30,16 +29,15 @@ periodic_small false = omega arith
 
 each_value : (w : Configuration) → IsValid w → AllByRecursion IsRow (map value_row (values_of w))
 each_value w ok =
-    let sides = ok.box.sides in (
-      IsRow-assigned NumberOfMonomers (length w.positions) (omega (arith, ok.few)),
-      IsRow-assigned BoxX (side_of w.shape 0) (side_small (side_of w.shape 0) sides.x.1),
-      IsRow-assigned BoxY (side_of w.shape 1) (side_small (side_of w.shape 1) sides.y.1),
-      IsRow-assigned BoxZ (side_of w.shape 2) (side_small (side_of w.shape 2) sides.z.1),
-      IsRow-assigned PeriodicX (periodic_value (is_periodic w.shape 0)) (periodic_small (is_periodic w.shape 0)),
-      IsRow-assigned PeriodicY (periodic_value (is_periodic w.shape 1)) (periodic_small (is_periodic w.shape 1)),
-      IsRow-assigned PeriodicZ (periodic_value (is_periodic w.shape 2)) (periodic_small (is_periodic w.shape 2)),
-      tt,
-    )
+    let sides = ok.box.sides in
+    let count = IsRow-assigned NumberOfMonomers (length w.positions) (omega (arith, ok.few)) in
+    let x = IsRow-assigned BoxX (side_of w.shape 0) (side_small (side_of w.shape 0) sides.x.1) in
+    let y = IsRow-assigned BoxY (side_of w.shape 1) (side_small (side_of w.shape 1) sides.y.1) in
+    let z = IsRow-assigned BoxZ (side_of w.shape 2) (side_small (side_of w.shape 2) sides.z.1) in
+    let u = IsRow-assigned PeriodicX (periodic_value (is_periodic w.shape 0)) (periodic_small (is_periodic w.shape 0)) in
+    let v = IsRow-assigned PeriodicY (periodic_value (is_periodic w.shape 1)) (periodic_small (is_periodic w.shape 1)) in
+    let t = IsRow-assigned PeriodicZ (periodic_value (is_periodic w.shape 2)) (periodic_small (is_periodic w.shape 2)) in
+    (count, (x, (y, (z, (u, (v, (t, tt)))))))
 
 -- the lists
 each_of_list : (known : Known) (rows : List (List ℕ)) → AllByRecursion IsRow rows → AllByRecursion IsRow (listed_rows (command_row known) rows)
@@ -94,10 +92,10 @@ each_frame_row w ok near =
 
 -- All rows.
 
-blank : IsRow []
-blank = record { plain = refl; short = omega arith }
+pub IsRow-blank : IsRow []
+IsRow-blank = record { plain = refl; short = omega arith }
 
 pub each_world_row : (w : Configuration) (mcs : ℕ) → IsValid w → reach_of w.positions ≤ 2 ^ 44 → mcs ≤ 2 ^ 40 → AllByRecursion IsRow (world_rows w mcs)
 each_world_row w mcs ok near early =
     each-append IsRow (header_rows w) _ (each-append IsRow (map value_row (values_of w)) (list_rows w) (each_value w ok) (each_list_row w ok))
-    (blank, IsRow-assigned Mcs mcs (omega (arith, early)), each-map (λ row. IsRow (frame_row row)) IsRow frame_row (rows_of w) (each_frame_row w ok near) (λ row r. r))
+    (IsRow-blank, (IsRow-assigned Mcs mcs (omega (arith, early)), each-map (λ row. IsRow (frame_row row)) IsRow frame_row (rows_of w) (each_frame_row w ok near) (λ row r. r)))

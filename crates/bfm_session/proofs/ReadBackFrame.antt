@@ -1,9 +1,8 @@
 -- The rows of the frame of a valid world, read one after another.
-use Rattle.std.proofs.Common.{◌≡◌, ◌≢◌, ℕ, zero, suc, ◌+◌, ◌<◌, ◌≤◌, ◌^◌, Bool, true, false, cond, not, ◌&&◌, nat_eq, List, [], ◌∷◌, ◌++◌, length, map, Option, None, Some, Ok, refl, sym, ap, ◌∙◌, subst, append_assoc, append-nil, length-append, arith}
+use Rattle.std.proofs.Common.{◌≡◌, ℕ, ◌+◌, ◌<◌, ◌^◌, true, false, cond, ◌&&◌, nat_eq, List, [], ◌∷◌, ◌++◌, length, map, None, Ok, refl, sym, ap, ◌∙◌, subst, append_assoc, append-nil, length-append, arith}
 use Rattle.std.specs.Result.{result_ok}
 use Rattle.std.specs.List.{AllByRecursion, flat_map}
 use Rattle.std.proofs.lemmas.Bool.Decides.{nat_tests}
-use Rattle.bfm_base.specs.Place.{extent_of}
 use Rattle.bfm_base.specs.declared.place.P3.{P3}
 use Rattle.bfm_world.specs.Bonds.{are_bonded}
 use Rattle.bfm_world.specs.Configuration.{Configuration, IsValid}
@@ -11,13 +10,11 @@ use Rattle.bfm_world.specs.Draft.{Draft}
 use Rattle.bfm_writer.specs.Rows.{Row, row_positions}
 use Rattle.bfm_commands.specs.Forms.{frame_line}
 use Rattle.bfm_commands.specs.Meaning.{entry, meaning_of}
-use Rattle.bfm_commands.specs.History.{History, has_begun, owner_after, with_pairs, line_positions, string_positions, positions_of, chain, mcs_of, is_first_frame, draft_of, completes, last_whole, frames_of, first_positions, time_after, is_skipped, skipped_of}
+use Rattle.bfm_commands.specs.History.{History, owner_after, with_pairs, line_positions, string_positions, positions_of, chain, draft_of, completes, last_whole, frames_of, first_positions, is_skipped, skipped_of}
 use Rattle.bfm_commands.specs.Placing.{with_line}
 use Rattle.bfm_commands.specs.Causes.{entered, string_cause, frame_cause, entry_cause, cause_of}
 use Rattle.bfm_commands.specs.Reading.{is_complete, taken_line}
 use Rattle.bfm_commands.specs.Verdict.{newest_first, refused_at, first_wrong}
-use Rattle.bfm_commands.specs.declared.commands.Known.TheVariants.{Mcs}
-use Rattle.bfm_commands.specs.declared.owner.Owner.TheVariants.{Command}
 use Rattle.bfm_commands.proofs.HistoryLemmas.{has_begun-more, is_first_frame-same, owner_of-line, mcs_of-line, draft_of-taken, completes-line}
 use Rattle.bfm_commands.proofs.PairLemmas.{with_pairs-append}
 use Rattle.bfm_commands.proofs.WalkLemmas.{length-walk}
@@ -120,11 +117,11 @@ IsRead-whole w mcs joined lines line f whole none = record {
 
 -- All rows.
 
-each_left : {X : Type 0} (P : X → Type 0) (xs ys : List X) → AllByRecursion P (xs ++ ys) → AllByRecursion P xs
+pub each_left : {X : Type 0} (P : X → Type 0) (xs ys : List X) → AllByRecursion P (xs ++ ys) → AllByRecursion P xs
 each_left P [] ys all = tt
 each_left P (x ∷ xs) ys all = (all.0, each_left P xs ys all.1)
 
-each_right : {X : Type 0} (P : X → Type 0) (xs ys : List X) → AllByRecursion P (xs ++ ys) → AllByRecursion P ys
+pub each_right : {X : Type 0} (P : X → Type 0) (xs ys : List X) → AllByRecursion P (xs ++ ys) → AllByRecursion P ys
 each_right P [] ys all = all
 each_right P (x ∷ xs) ys all = each_right P xs ys all.1
 

@@ -1,5 +1,5 @@
 -- The first frame begins behind the header of a valid world.
-use Rattle.std.proofs.Common.{◌≡◌, ℕ, ◌+◌, ◌^◌, ◌<◌, ◌≤◌, Bool, true, false, cond, not, ◌||◌, nat_le, pos, replicate, List, [], ◌∷◌, ◌++◌, length, decimal, Option, None, Some, unwrap_or, refl, sym, ap, ◌∙◌, arith}
+use Rattle.std.proofs.Common.{◌≡◌, ℕ, ◌+◌, ◌^◌, ◌<◌, ◌≤◌, true, false, cond, not, nat_le, pos, replicate, List, [], ◌∷◌, length, decimal, None, Some, unwrap_or, refl, ap, ◌∙◌, arith}
 use Rattle.std.proofs.lemmas.Bool.Decides.{nat_tests}
 use Rattle.bfm_base.specs.declared.place.P3.{P3}
 use Rattle.bond_set.specs.BondSet.{first_unpaired}
