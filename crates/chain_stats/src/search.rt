@@ -1,0 +1,66 @@
+ghost use Rattle.std.specs.Prelude.{◌≡◌, ◌+◌, ◌<◌, [], ◌∷◌, length, slice_index, IfOk};
+ghost use Rattle.chain_stats.specs.Search.{AreSearched, IsSpreading, missing};
+
+use bfm_world::World;
+use std::alloc::{AllocError, Global};
+
+/// The root of each monomer: the least monomer of its molecule.
+pub(crate) fn roots_of(alloc: Global, world: &World) -> Result<Vec<u32>, AllocError>
+    ensures { IfOk result (λ roots. AreSearched world.now.bonds (length world.now.positions) (length world.now.positions) roots.items) }
+{
+    let count = world.len();
+    let mut roots: Vec<u32> = vec![in alloc; count; count as usize]?;
+    let mut waiting: Vec<u32> = Vec::with_capacity(alloc, count as usize)?;
+    for number in 0..count {
+        if roots[number as usize] == count {
+            find_molecule(world, number, &mut roots, &mut waiting)?;
+        }
+    }
+    Ok(roots)
+}
+
+/// Finds the molecule whose least monomer this is.
+fn find_molecule(
+    world: &World,
+    number: u32,
+    roots: &mut [u32],
+    waiting: &mut Vec<u32>,
+) -> Result<(), AllocError>
+    requires monomer { number < length world.now.positions }
+    requires searched { AreSearched world.now.bonds (length world.now.positions) number roots.old }
+    requires first { slice_index roots.old number ≡ length world.now.positions }
+    requires none { waiting.old.items ≡ [] }
+    ensures searched { IfOk result (λ _. AreSearched world.now.bonds (length world.now.positions) (number + 1) roots.new) }
+    ensures none { IfOk result (λ _. waiting.new.items ≡ []) }
+{
+    roots[number as usize] = number;
+    waiting.push(number)?;
+    while let Some(i) = waiting.pop() {
+        go_on(world, i, number, roots, waiting)?;
+    }
+    Ok(())
+}
+
+/// Goes on from a monomer to its neighbours, those of which wait that are found only now.
+fn go_on(
+    world: &World,
+    i: u32,
+    number: u32,
+    roots: &mut [u32],
+    waiting: &mut Vec<u32>,
+) -> Result<(), AllocError>
+    requires monomer { number < length world.now.positions }
+    requires spreading { IsSpreading world.now.bonds (length world.now.positions) number roots.old (i ∷ waiting.old.items) }
+    ensures spreading { IfOk result (λ _. IsSpreading world.now.bonds (length world.now.positions) number roots.new waiting.new.items) }
+    ensures work { IfOk result (λ _. missing (length world.now.positions) roots.new + length waiting.new.items
+        ≡ missing (length world.now.positions) roots.old + length waiting.old.items) }
+{
+    let count = world.len();
+    for j in world.neighbours(i) {
+        if roots[*j as usize] == count {
+            roots[*j as usize] = number;
+            waiting.push(*j)?;
+        }
+    }
+    Ok(())
+}
