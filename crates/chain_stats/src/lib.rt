@@ -8,6 +8,8 @@
 mod fraction;
 mod groups;
 mod molecule_list;
+#[cfg(test)]
+mod molecule_tests;
 mod search;
 #[cfg(test)]
 mod tests;
