@@ -1,2 +1,3 @@
 pub mod VectorLemmas
 pub mod GroupLemmas
+pub mod SearchLemmas
