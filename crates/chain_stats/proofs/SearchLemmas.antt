@@ -4,7 +4,7 @@ use Rattle.std.specs.List.{Contains, sum_by}
 use Rattle.std.proofs.Math.ListN.{set}
 use Rattle.std.proofs.lemmas.Bool.{cases_lt, cases_eq}
 use Rattle.std.proofs.lemmas.Bool.Decides.{nat_tests}
-use Rattle.std.proofs.lemmas.List.{take_at, length-set, length-replicate, get_or-replicate, get_or-set_same, get_or-set_other}
+use Rattle.std.proofs.lemmas.List.{take_at, get_or_default, length-set, length-replicate, get_or-replicate, get_or-set_same, get_or-set_other}
 use Rattle.std.proofs.lemmas.List.Elements.{All-nil, All-cons, All-head, All-tail, All-push, All-weaker, All-contains, All-same, All-take, Contains-push, Contains-push_cases, Contains-append_left, Contains-append_right, Contains-append_cases}
 use Rattle.std.proofs.lemmas.List.Sums.{sum_by-set}
 use Rattle.bfm_world.specs.Bonds.{are_bonded, AreBonds}
@@ -35,7 +35,7 @@ Contains-cons_cases x xs y h =
     (Contains-append_cases (x ∷ []) xs y h)
 
 All-left : (P : ℕ → Type 0) (xs ys : List ℕ) → All P (xs ++ ys) → All P xs
-All-left P xs ys h = All-same P xs (take (length xs) (xs ++ ys)) (take_at xs ys (length xs) refl) (All-take P (length xs) (xs ++ ys) h)
+All-left P xs ys h = All-same P xs (take (length xs) (xs ++ ys)) (sym (take_at xs ys (length xs) refl)) (All-take P (length xs) (xs ++ ys) h)
 
 test_yes : (m n : ℕ) → m ≡ n → ◌≡◌ {A = ℕ} (cond (nat_eq m n) 1 0) 1
 test_yes m n h = grind (arith, nat_tests)
@@ -220,3 +220,16 @@ module _ (bonds : List (List ℕ)) (count number : ℕ) (s : number < count) whe
         before = f.before;
         waits = All-tail (λ (k : ℕ). (k < count) × (root_of roots k ≡ number)) i waiting f.waits;
       }
+
+-- where all of a list are found, so is each member
+pub reached_by : (count : ℕ) (roots row : List ℕ) (j : ℕ) → Contains row j → ((k : ℕ) → k < length row → root_of roots (get_or row k 0) < count) → root_of roots j < count
+reached_by count roots row j h all =
+    subst (λ (q : ℕ). root_of roots q < count) (get_or_default row h.0 0 j h.1 ∙ h.2) (all h.0 h.1)
+
+-- what is found stays found
+pub found_after : (count : ℕ) (roots : List ℕ) (j number k : ℕ) → number < count → j < length roots → root_of roots k < count → root_of (set roots j number) k < count
+found_after count roots j number k s l h =
+    ⊎_elim
+    (λ e. subst (λ (q : ℕ). root_of (set roots j number) q < count) (sym e) (omega (arith, get_or-set_same roots j number 0 l)))
+    (λ n. omega (arith, get_or-set_other roots j k number 0 n))
+    (cases_eq k j)
