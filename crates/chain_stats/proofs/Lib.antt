@@ -1,3 +1,4 @@
 pub mod VectorLemmas
 pub mod GroupLemmas
 pub mod SearchLemmas
+pub mod MoleculeLemmas

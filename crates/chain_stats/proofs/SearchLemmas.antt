@@ -1,5 +1,5 @@
 -- What each step of the search for molecules keeps.
-use Rattle.std.proofs.Common.{◌≡◌, ◌≢◌, ℕ, zero, suc, ◌+◌, ◌<◌, ◌≤◌, ◌⊎◌, inl, inr, ⊎_elim, Bool, true, false, cond, List, [], ◌∷◌, ◌++◌, length, get_or, take, replicate, All, refl, sym, ap, subst, ◌∙◌, arith, nat_eq}
+use Rattle.std.proofs.Common.{◌≡◌, ◌≢◌, ℕ, zero, suc, ◌+◌, ◌<◌, ◌≤◌, ◌⊎◌, inl, inr, ⊎_elim, Bool, true, false, cond, List, [], ◌∷◌, ◌++◌, length, get_or, take, replicate, All, refl, sym, ap, subst, ◌∙◌, arith, nat_eq, below_more}
 use Rattle.std.specs.List.{Contains, sum_by}
 use Rattle.std.proofs.Math.ListN.{set}
 use Rattle.std.proofs.lemmas.Bool.{cases_lt, cases_eq}
@@ -23,11 +23,11 @@ AreJoined-more bonds i j k h b = (h.0 ++ k ∷ [], way_more bonds i h.0 j k h.1 
 pub AreJoined-itself : (bonds : List (List ℕ)) (i : ℕ) → AreJoined bonds i i
 AreJoined-itself bonds i = ([], refl)
 
-no_member : (x : ℕ) → Contains [] x → ⊥
+pub no_member : (x : ℕ) → Contains [] x → ⊥
 no_member x h = omega (arith, h.1)
 
 -- the first of a list or one of the others
-Contains-cons_cases : (x : ℕ) (xs : List ℕ) (y : ℕ) → Contains (x ∷ xs) y → (x ≡ y) ⊎ Contains xs y
+pub Contains-cons_cases : (x : ℕ) (xs : List ℕ) (y : ℕ) → Contains (x ∷ xs) y → (x ≡ y) ⊎ Contains xs y
 Contains-cons_cases x xs y h =
     ⊎_elim
     (λ first. ⊎_elim (λ none. absurd (no_member y none)) (λ e. inl e) (Contains-push_cases [] x y first))
@@ -233,3 +233,16 @@ found_after count roots j number k s l h =
     (λ e. subst (λ (q : ℕ). root_of (set roots j number) q < count) (sym e) (omega (arith, get_or-set_same roots j number 0 l)))
     (λ n. omega (arith, get_or-set_other roots j k number 0 n))
     (cases_eq k j)
+
+-- one neighbour more is found: only now, or before
+pub reached_more : (count number i : ℕ) (roots row items : List ℕ) → items ≡ row → number < count → get_or items i 0 < length roots
+    → ((k : ℕ) → k < i → root_of roots (get_or row k 0) < count) → (k : ℕ) → k < i + 1 → root_of (set roots (get_or items i 0) number) (get_or row k 0) < count
+reached_more count number i roots row items e s l before =
+    below_more _ _
+    (λ k h. found_after count roots (get_or items i 0) number (get_or row k 0) s l (before k h))
+    (subst (λ (xs : List ℕ). root_of (set roots (get_or items i 0) number) (get_or xs i 0) < count) e (omega (arith, get_or-set_same roots (get_or items i 0) number 0 l)))
+
+pub reached_still : (count i : ℕ) (roots row items : List ℕ) → items ≡ row → root_of roots (get_or items i 0) < count
+    → ((k : ℕ) → k < i → root_of roots (get_or row k 0) < count) → (k : ℕ) → k < i + 1 → root_of roots (get_or row k 0) < count
+reached_still count i roots row items e l before =
+    below_more _ _ before (subst (λ (xs : List ℕ). root_of roots (get_or xs i 0) < count) e l)

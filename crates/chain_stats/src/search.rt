@@ -11,12 +11,23 @@ pub(crate) fn roots_of(alloc: Global, world: &World) -> Result<Vec<u32>, AllocEr
     let count = world.len();
     let mut roots: Vec<u32> = vec![in alloc; count; count as usize]?;
     let mut waiting: Vec<u32> = Vec::with_capacity(alloc, count as usize)?;
+    find_all(world, &mut roots, &mut waiting)?;
+    Ok(roots)
+}
+
+/// Finds all molecules, in order of their least monomers.
+fn find_all(world: &World, roots: &mut [u32], waiting: &mut Vec<u32>) -> Result<(), AllocError>
+    requires searched { AreSearched world.now.bonds (length world.now.positions) 0 roots.old }
+    requires none { waiting.old.items ≡ [] }
+    ensures { IfOk result (λ _. AreSearched world.now.bonds (length world.now.positions) (length world.now.positions) roots.new) }
+{
+    let count = world.len();
     for number in 0..count {
         if roots[number as usize] == count {
-            find_molecule(world, number, &mut roots, &mut waiting)?;
+            find_molecule(world, number, roots, waiting)?;
         }
     }
-    Ok(roots)
+    Ok(())
 }
 
 /// Finds the molecule whose least monomer this is.

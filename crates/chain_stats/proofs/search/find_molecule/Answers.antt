@@ -7,14 +7,16 @@ use Rattle.chain_stats.proofs.search.find_molecule.Goals as goal
 pub loop-i-init : goal.loop-i-init
 loop-i-init c =
     let begun = IsSpreading-begun c.args.world.now.bonds (length c.args.world.now.positions) c.args.number c.requires.monomer c.args.roots.now c.requires.searched c.requires.first in
-    let items : c.push.new.self.items ≡ c.args.number ∷ [] = ? in
+    let items : c.push.new.self.items ≡ c.args.number ∷ [] = c.in_ok-push.ensures.items ∙ ap (λ xs. xs ++ c.args.number ∷ []) c.requires.none in
     rw items begun
 
 pub go_on-requires-clause-spreading : goal.go_on-requires-clause-spreading
 go_on-requires-clause-spreading c =
-    let items : c.loop-i.waiting.items ≡ c.pop.new.self.items ++ c.in-Some.i ∷ [] = ? in
+    let items : c.loop-i.waiting.items ≡ c.pop.new.self.items ++ c.in-Some.i ∷ [] = c.in-Some.ensures.items in
     IsSpreading-taken c.args.world.now.bonds (length c.args.world.now.positions) c.args.number c.requires.monomer c.loop-i.roots c.pop.new.self.items c.in-Some.i
     (subst (IsSpreading c.args.world.now.bonds (length c.args.world.now.positions) c.args.number c.loop-i.roots) items c.loop-i.invariant)
 
 pub loop-i-smaller : goal.loop-i-smaller
-loop-i-smaller c = omega (arith, c.in_ok-go_on.ensures.work, c.in-Some.ensures.len, c.in-Some.ensures.cases)
+loop-i-smaller c =
+    let items : c.loop-i.waiting.items ≡ c.pop.new.self.items ++ c.in-Some.i ∷ [] = c.in-Some.ensures.items in
+    omega (arith, c.in_ok-go_on.ensures.work, ap length items, length_push c.pop.new.self.items c.in-Some.i)
