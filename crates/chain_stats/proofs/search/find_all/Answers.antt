@@ -2,17 +2,17 @@ use Rattle.std.proofs.Common.{◌≡◌, ◌≢◌, ℕ, ◌+◌, ◌<◌, ◌�
 use Rattle.chain_stats.specs.Search.{root_of, AreSearched}
 use Rattle.chain_stats.proofs.SearchLemmas.{AreSearched-skip}
 use Rattle.chain_stats.proofs.search.find_all.Goals as goal
-use Rattle.chain_stats.proofs.search.find_all.Goals.{then-roots-count+in_ok-find_molecule, else-roots-count}
+use Rattle.chain_stats.proofs.search.find_all.Goals.{then-roots-number+in_ok-find_molecule, else-roots-number}
 
 pub loop-number-preserved : goal.loop-number-preserved
 loop-number-preserved c =
-    elim c.if-roots-count.branch [
-      | then-roots-count+in_ok-find_molecule w ↦ record {
+    elim c.if-roots-number.branch [
+      | then-roots-number+in_ok-find_molecule w ↦ record {
         searched = rw w.roots-is w.in_ok-find_molecule.ensures.searched;
         none = rw w.waiting-is w.in_ok-find_molecule.ensures.none;
       }
-      | else-roots-count w ↦
-          let other : root_of c.loop-number.roots c.loop-number.number ≢ length c.args.world.now.positions = λ e. absurd (omega (arith, e, w.if-roots-count.false, c.len-count.ensures.count)) in
+      | else-roots-number w ↦
+          let other : root_of c.loop-number.roots c.loop-number.number ≢ length c.args.world.now.positions = λ e. absurd (omega (arith, e, w.if-roots-number.false, c.len-count.ensures.count)) in
           record {
             searched = rw w.roots-is (AreSearched-skip c.args.world.now.bonds (length c.args.world.now.positions) c.loop-number.number (omega arith) c.loop-number.roots c.loop-number.invariant.searched other);
             none = rw w.waiting-is c.loop-number.invariant.none;

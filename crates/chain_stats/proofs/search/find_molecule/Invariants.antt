@@ -6,4 +6,4 @@ abbrev pub invariant-loop-i : goal.invariant-loop-i
 invariant-loop-i l = IsSpreading l.world.bonds (length l.world.positions) l.number l.roots l.waiting.items
 
 abbrev pub decreases-loop-i : goal.decreases-loop-i
-decreases-loop-i l = missing (length l.world.positions) l.roots + (missing (length l.world.positions) l.roots + length l.waiting.items)
+decreases-loop-i l = missing (length l.world.positions) l.roots + length l.waiting.items
