@@ -1,11 +1,11 @@
 -- The groups of monomers with one root are the molecules.
-use Rattle.std.proofs.Common.{◌≡◌, ◌≢◌, ◌↔◌, ℕ, zero, suc, ◌+◌, ◌<◌, ◌≤◌, ◌⊎◌, inl, inr, ⊎_elim, Bool, true, false, cond, List, [], ◌∷◌, ◌++◌, length, get_or, map, All, refl, sym, ap, subst, ◌∙◌, arith, nat_eq}
+use Rattle.std.proofs.Common.{◌≡◌, ℕ, zero, suc, ◌+◌, ◌<◌, ◌≤◌, ⊎_elim, Bool, true, false, cond, List, [], ◌∷◌, length, get_or, map, All, refl, sym, ap, subst, ◌∙◌, arith, nat_eq}
 use Rattle.std.specs.List.{Contains, AllByRecursion, filter, range_with_len}
 use Rattle.std.proofs.lemmas.Bool.Decides.{nat_tests}
-use Rattle.std.proofs.lemmas.List.Elements.{All-map, All-filter, All-head, All-tail, All-contains, Contains-get_or, All-from_recursion, All-weaker, filter_passes}
+use Rattle.std.proofs.lemmas.List.Elements.{All-map, All-filter, All-head, All-tail, All-contains, Contains-get_or, All-from_recursion, filter_passes}
 use Rattle.std.proofs.lemmas.List.FromFn.{length-range_with_len, get_or-range_with_len}
 use Rattle.bond_set.proofs.ListLemmas.{Contains-map, Contains-filter}
-use Rattle.bfm_world.specs.Bonds.{are_bonded, AreBonds, IsAscending}
+use Rattle.bfm_world.specs.Bonds.{AreBonds, IsAscending}
 use Rattle.bfm_world.specs.Configuration.{Configuration}
 use Rattle.chain_stats.specs.Molecules.{AreJoined, IsWay, first_of, IsMolecule, AreMolecules}
 use Rattle.chain_stats.specs.Search.{root_of, AreSearched, is_root, members_below, roots_below, groups_of}

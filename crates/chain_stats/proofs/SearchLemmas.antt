@@ -1,6 +1,6 @@
 -- What each step of the search for molecules keeps.
-use Rattle.std.proofs.Common.{◌≡◌, ◌≢◌, ℕ, zero, suc, ◌+◌, ◌<◌, ◌≤◌, ◌⊎◌, inl, inr, ⊎_elim, Bool, true, false, cond, List, [], ◌∷◌, ◌++◌, length, get_or, take, replicate, All, refl, sym, ap, subst, ◌∙◌, arith, nat_eq, below_more}
-use Rattle.std.specs.List.{Contains, sum_by}
+use Rattle.std.proofs.Common.{◌≡◌, ◌≢◌, ℕ, ◌+◌, ◌<◌, ◌≤◌, ◌⊎◌, inl, inr, ⊎_elim, true, cond, List, [], ◌∷◌, ◌++◌, length, get_or, take, replicate, All, refl, sym, subst, ◌∙◌, arith, nat_eq, below_more}
+use Rattle.std.specs.List.{Contains}
 use Rattle.std.proofs.Math.ListN.{set}
 use Rattle.std.proofs.lemmas.Bool.{cases_lt, cases_eq}
 use Rattle.std.proofs.lemmas.Bool.Decides.{nat_tests}
@@ -9,7 +9,7 @@ use Rattle.std.proofs.lemmas.List.Elements.{All-nil, All-cons, All-head, All-tai
 use Rattle.std.proofs.lemmas.List.Sums.{sum_by-set}
 use Rattle.bfm_world.specs.Bonds.{are_bonded, AreBonds}
 use Rattle.chain_stats.specs.Molecules.{AreJoined, IsWay}
-use Rattle.chain_stats.specs.Search.{root_of, IsFound, missing, AreFound, AreSearched, IsSpreading}
+use Rattle.chain_stats.specs.Search.{root_of, IsFound, missing, AreSearched, IsSpreading}
 
 -- one bond more at the end of a way
 way_more : (bonds : List (List ℕ)) (i : ℕ) (way : List ℕ) (j k : ℕ) → IsWay bonds i way j → are_bonded bonds j k ≡ true → IsWay bonds i (way ++ k ∷ []) k

@@ -1,5 +1,5 @@
-use Rattle.std.proofs.Common.{◌≡◌, ◌≢◌, ℕ, ◌+◌, ◌<◌, ◌≤◌, [], length, get_or, rules, arith}
-use Rattle.chain_stats.specs.Search.{root_of, AreSearched}
+use Rattle.std.proofs.Common.{◌≢◌, length, arith}
+use Rattle.chain_stats.specs.Search.{root_of}
 use Rattle.chain_stats.proofs.SearchLemmas.{AreSearched-skip}
 use Rattle.chain_stats.proofs.search.find_all.Goals as goal
 use Rattle.chain_stats.proofs.search.find_all.Goals.{then-roots-number+in_ok-find_molecule, else-roots-number}

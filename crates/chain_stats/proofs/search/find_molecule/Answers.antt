@@ -1,7 +1,7 @@
-use Rattle.std.proofs.Common.{◌≡◌, ℕ, ◌+◌, ◌<◌, ◌≤◌, ◌∷◌, ◌++◌, [], List, length, rules, arith, sym, subst, ap, ◌∙◌}
+use Rattle.std.proofs.Common.{◌≡◌, ◌∷◌, ◌++◌, [], length, arith, subst, ap, ◌∙◌}
 use Rattle.std.proofs.lemmas.List.{length_push}
-use Rattle.chain_stats.specs.Search.{IsSpreading, missing}
-use Rattle.chain_stats.proofs.SearchLemmas.{IsSpreading-begun, IsSpreading-taken, AreSearched-whole}
+use Rattle.chain_stats.specs.Search.{IsSpreading}
+use Rattle.chain_stats.proofs.SearchLemmas.{IsSpreading-begun, IsSpreading-taken}
 use Rattle.chain_stats.proofs.search.find_molecule.Goals as goal
 
 pub loop-i-init : goal.loop-i-init

@@ -1,9 +1,9 @@
-use Rattle.std.proofs.Common.{◌≡◌, ℕ, ◌+◌, ◌<◌, ◌≤◌, ◌∷◌, ◌++◌, [], List, length, get_or, true, rules, arith, sym, subst, ap, ◌∙◌, below_more}
+use Rattle.std.proofs.Common.{◌≡◌, ℕ, ◌<◌, List, length, get_or, true, arith, subst, ap}
 use Rattle.std.specs.List.{Contains}
 use Rattle.std.proofs.lemmas.List.{length_push}
 use Rattle.std.proofs.lemmas.List.Elements.{Contains-get_or}
 use Rattle.bfm_world.specs.Bonds.{neighbours_of, are_bonded}
-use Rattle.chain_stats.specs.Search.{root_of, IsSpreading, missing}
+use Rattle.chain_stats.specs.Search.{root_of}
 use Rattle.chain_stats.proofs.SearchLemmas.{IsSpreading-reached, IsSpreading-done, missing-set, reached_by, reached_more, reached_still}
 use Rattle.chain_stats.proofs.search.go_on.Goals as goal
 use Rattle.chain_stats.proofs.search.go_on.Goals.{then-roots-j+in_ok-push, else-roots-j}
