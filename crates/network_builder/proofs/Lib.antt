@@ -1,0 +1,7 @@
+pub mod CellLemmas
+pub mod GeometryLemmas
+pub mod JoinLemmas
+pub mod NetworkLemmas
+pub mod NodeLemmas
+pub mod RowLemmas
+pub mod StrandLemmas
