@@ -15,6 +15,7 @@ use Rattle.bfm_commands.specs.History.{History, listed_bonds, with_pairs, mcs_of
 use Rattle.bfm_commands.specs.Causes.{cause_of}
 use Rattle.bfm_commands.specs.Verdict.{newest_first, refused_at, first_wrong, bytes_in, loaded_of, whole_or, verdict_of}
 use Rattle.bfm_commands.specs.declared.loaded.Loaded.{Loaded}
+use Rattle.bfm_session.specs.Written.{loaded_back, world_text}
 use Rattle.bfm_session.proofs.ReadBackLines.{text_of, finished_lines-rows, IsRow}
 use Rattle.bfm_session.proofs.ReadBackRows.{listed_pairs, time_row, frame_row, header_rows, frame_rows, world_rows, world_text-rows}
 use Rattle.bfm_session.proofs.ReadBackMeanings.{meaning-blank}
@@ -32,22 +33,6 @@ use Rattle.bfm_session.proofs.ReadBackBonded.{bonds_read, bonds_back}
 bytes_in-rows : (before : History) (rows : List (List ℕ)) → bytes_in (newest_first before rows) ≡ bytes_in before + length (text_of rows)
 bytes_in-rows before [] = omega arith
 bytes_in-rows before (row ∷ rows) = omega (arith, bytes_in-rows (row ∷ before) rows, length-append (row ++ 10 ∷ []) (text_of rows), length-append row (10 ∷ []))
-
--- all that is written of a world with one frame
-abbrev pub world_text : Configuration → ℕ → List ℕ
-world_text w mcs = header_text w ++ group_text w mcs []
-
--- what it is read as
-abbrev pub loaded_back : Configuration → ℕ → Loaded
-loaded_back w mcs = record {
-  world = w;
-  first = w.positions;
-  mcs = mcs;
-  frames = 1;
-  kept = length (world_text w mcs);
-  total = length (world_text w mcs);
-  skipped = 0;
-}
 
 module _ (w : Configuration) (ok : IsValid w) (has : HasThree w.shape) (near : reach_of w.positions ≤ 2 ^ 44) (mcs : ℕ) (early : mcs ≤ 2 ^ 40) where
   -- the lines of the header, and those up to the time

@@ -5,3 +5,4 @@ pub mod Loading
 pub mod NumberLines
 pub mod Pieces
 pub mod Running
+pub mod Written

@@ -3,7 +3,7 @@
 //! for the sweeps, on `plain_move` for the moves and on `crossing_check` for the verdict on the set.
 //! It promises that `load` judges the bytes in order and stops where they decide, that `run` writes
 //! the kept part of the file and then the groups of the run, and that `analyse` writes its answer;
-//! both flush, or say why not.
+//! both flush, or say why not. A world that `write_world` writes is read back as the same world.
 #![tactic(auto)]
 
 mod analysis;
@@ -13,6 +13,7 @@ mod lines;
 mod loading;
 mod order;
 mod running;
+mod written;
 
 pub use analysis::{Ask, AskFault, analyse};
 pub use crossing::crossing_lines;
@@ -20,3 +21,4 @@ pub use lines::number_lines;
 pub use loading::{LoadFault, load};
 pub use order::RunOrder;
 pub use running::{RunDone, RunFault, run};
+pub use written::write_world;
