@@ -1,3 +1,4 @@
+mod CrossingLemmas
 mod InputLemmas
 mod OutcomeLemmas
 mod StartLemmas

@@ -135,7 +135,7 @@ read-rose (Ok (Build start)) s d = absurd (d.uses.1 refl)
 read-rose (Ok (File job)) s d = d.uses.1.0
 
 -- what holds of the bytes that a source has left holds of those that it tells
-IfSome-held : (left : Option (List ℕ)) (bytes : List ℕ) (P : List ℕ → Type 0) → Holds left bytes → P bytes → IfSome left P
+pub IfSome-held : (left : Option (List ℕ)) (bytes : List ℕ) (P : List ℕ → Type 0) → Holds left bytes → P bytes → IfSome left P
 IfSome-held None bytes P h p = tt
 IfSome-held (Some all) bytes P h p = subst P (sym h) p
 

@@ -5,6 +5,7 @@ use Rattle.bfm_base.specs.Account.{Account, Delivered, TookPrefix}
 use Rattle.bfm_world.specs.Configuration.{Configuration, IsValid}
 use Rattle.crossing_check.specs.declared.judgement.SetVerdict.{SetVerdict}
 use Rattle.bfm_session.specs.Loading.{Supply}
+use Rattle.bfm_session.specs.Written.{IsReadBack}
 use Rattle.bfm_cli.specs.Ending.{status_of}
 use Rattle.bfm_cli.specs.Outcome.{Outcome, build_outcome, nothing}
 use Rattle.bfm_cli.specs.Promise.{Agrees, Holds, HasWorld, DoesBuilt, DoesOver, Scene, Tells, Writes, scene}
@@ -27,26 +28,28 @@ build_outcome-fits start fits =
     ap (λ short. cond short (nothing (ends.NoRoom (need_of start) (room_of start))) (record { ending = ends.Built; output = start_text (world_of start) })) wide
 
 -- its world was built, and its file written or a prefix of it
-pub DoesBuilt-whole : (start : Start) (world : Configuration) (before after : Account) (unwritten : Type 0) → ¬ (room_of start < need_of start) → world ≡ world_of start → IsValid world
+pub DoesBuilt-whole : (start : Start) (world : Configuration) (before after : Account) (unwritten : Type 0) → ¬ (room_of start < need_of start) → world ≡ world_of start → IsValid world → IsReadBack world 0
     → Delivered before after (start_text world) → DoesBuilt (Ok ends.Built) start before after unwritten
-DoesBuilt-whole start world before after unwritten fits same valid d =
+DoesBuilt-whole start world before after unwritten fits same valid back d =
     let outcome = build_outcome-fits start fits in
     record {
       agrees = sym (ap (λ (o : Outcome). o.ending) outcome);
       needs_no_input = λ e. cc;
       writes = subst (λ (o : Outcome). Delivered before after o.output) (sym outcome) (subst (λ w. Delivered before after (start_text w)) same d);
       valid = λ _. subst IsValid same valid;
+      read_back = λ _. subst (λ w. IsReadBack w 0) same back;
     }
 
-pub DoesBuilt-cut : (start : Start) (world : Configuration) (before after : Account) (unwritten : Type 0) → ¬ (room_of start < need_of start) → world ≡ world_of start → IsValid world
+pub DoesBuilt-cut : (start : Start) (world : Configuration) (before after : Account) (unwritten : Type 0) → ¬ (room_of start < need_of start) → world ≡ world_of start → IsValid world → IsReadBack world 0
     → TookPrefix before after (start_text world) → DoesBuilt (Err faults.Write) start before after unwritten
-DoesBuilt-cut start world before after unwritten fits same valid p =
+DoesBuilt-cut start world before after unwritten fits same valid back p =
     let outcome = build_outcome-fits start fits in
     record {
       agrees = ap (λ (o : Outcome). status_of o.ending) outcome;
       needs_no_input = λ e. cc;
       writes = subst (λ (o : Outcome). TookPrefix before after o.output) (sym outcome) (subst (λ w. TookPrefix before after (start_text w)) same p);
       valid = λ _. subst IsValid same valid;
+      read_back = λ _. subst (λ w. IsReadBack w 0) same back;
     }
 
 -- what was done for a start, over an input that was left alone
@@ -61,7 +64,7 @@ DoesOver-built ended start bytes verdict supply unread before after unwritten le
   agrees = did.agrees;
   uses = (same, did.needs_no_input);
   writes = did.writes;
-  worlds = did.valid;
+  worlds = λ has. (did.valid has, did.read_back has);
 }
 
 -- a start whose outcome is done has room, and its outcome is its file
@@ -74,7 +77,7 @@ build_outcome-done start false e d = (grind (arith, nat_tests), refl, refl)
 -- a start that is done was written whole, of a valid world for which there is room
 pub built-told : (ended : Result Ending Fault) (job : Result Job ℕ) (start : Start) (s : Scene) (status : Status) (old new : Account) (unreported : Type 0) → job ≡ Ok (Build start) → DoesOver ended job s
     → Tells ended status old new unreported → status ≡ statuses.Done
-    → (need_of start ≤ room_of start) × IsValid (world_of start) × Delivered s.output_before s.output_after (start_text (world_of start))
+    → (need_of start ≤ room_of start) × IsValid (world_of start) × Delivered s.output_before s.output_after (start_text (world_of start)) × IsReadBack (world_of start) 0
 built-told ended job start s status old new unreported of_start does t e =
     let d = subst (λ j. DoesOver ended j s) of_start does in
     let told = told-done ended status old new unreported t e in
@@ -83,6 +86,7 @@ built-told ended job start s status old new unreported of_start does t e =
     let built : ended ≡ Ok ends.Built = told.1 ∙ ap Ok (agrees ∙ outcome.1) in
     let valid = subst HasWorld (sym built) tt in (
       outcome.0,
-      d.worlds valid,
+      (d.worlds valid).0,
       subst (Delivered s.output_before s.output_after) outcome.2 (subst (λ x. Writes x (build_outcome start).output s.output_before s.output_after s.unwritten) built d.writes),
+      (d.worlds valid).1,
     )

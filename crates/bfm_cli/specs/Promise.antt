@@ -3,12 +3,14 @@ use Rattle.std.specs.Prelude.{◌≡◌, ◌≢◌, ℕ, ◌⊎◌, List, Option
 use Rattle.bfm_base.specs.Account.{Account, Delivered, TookPrefix}
 use Rattle.bfm_base.specs.Faults.{Rose}
 use Rattle.bfm_base.specs.declared.cause.Refused.{Refused}
+use Rattle.bond_set.specs.Crossing.{IsFree}
 use Rattle.bfm_world.specs.Configuration.{IsValid}
 use Rattle.crossing_check.specs.declared.judgement.SetVerdict.{SetVerdict}
 use Rattle.bfm_commands.specs.Verdict.{verdict_of}
 use Rattle.bfm_commands.specs.declared.loaded.Loaded.{Loaded}
-use Rattle.sweep_run.specs.Sweep.{state_at, begun_with}
+use Rattle.sweep_run.specs.Sweep.{NoMoveCrosses, state_at, begun_with}
 use Rattle.bfm_session.specs.Loading.{Supply, IsOpen, IsShown, ReadWhole, Takes, limited_verdict, too_long}
+use Rattle.bfm_session.specs.Written.{IsReadBack}
 use Rattle.bfm_session.specs.declared.order.RunOrder.{RunOrder}
 use Rattle.bfm_cli.specs.Ending.{status_of, ended_status, ended_report}
 use Rattle.bfm_cli.specs.Outcome.{Outcome, JudgesFor, JudgesInput, accepted_outcome, build_outcome, job_outcome, limit_of}
@@ -101,12 +103,28 @@ HasValidStates order (Err wrong) = Unit {0}
 HasValidStates order (Ok loaded) =
     (count a : ℕ) → IsValid (state_at order.seed loaded.mcs count a (begun_with loaded.world)).world
 
--- the worlds of a job are valid: each state of a run, and the world of a start
+-- The worlds of a job are valid: each state of a run, and the world of a start, which its file gives back.
 abbrev pub HasValidWorlds : Result Job ℕ → List ℕ → Type 0
 HasValidWorlds (Err word) bytes = Unit {0}
 HasValidWorlds (Ok (File (Run order))) bytes = HasValidStates order (verdict_of bytes)
 HasValidWorlds (Ok (File (Look ask limit))) bytes = Unit {0}
-HasValidWorlds (Ok (Build start)) bytes = IsValid (world_of start)
+HasValidWorlds (Ok (Build start)) bytes = IsValid (world_of start) × IsReadBack (world_of start) 0
+
+-- the set of an accepted file is free
+abbrev pub HasFreeSet : Result Loaded Refused → Type 0
+HasFreeSet (Err wrong) = ⊥
+HasFreeSet (Ok loaded) = IsFree loaded.world.set
+
+-- no move of a run of an accepted file takes a bond through another that shares no monomer with it, in any image
+abbrev pub CrossesNoBond : RunOrder → Result Loaded Refused → Type 0
+CrossesNoBond order (Err wrong) = Unit {0}
+CrossesNoBond order (Ok loaded) = NoMoveCrosses order.seed loaded.mcs loaded.world
+
+abbrev pub HasNoCrossing : Result Job ℕ → List ℕ → Type 0
+HasNoCrossing (Err word) bytes = Unit {0}
+HasNoCrossing (Ok (File (Run order))) bytes = CrossesNoBond order (verdict_of bytes)
+HasNoCrossing (Ok (File (Look ask limit))) bytes = Unit {0}
+HasNoCrossing (Ok (Build start)) bytes = Unit {0}
 
 -- what comes only where the output was called
 abbrev pub IsBegun : Result Ending Fault → Type 0
@@ -164,6 +182,7 @@ pub record DoesBuilt (ended : Result Ending Fault) (start : Start) (before after
   pub needs_no_input : ended ≢ Err faults.Read
   pub writes : Writes ended (build_outcome start).output before after unwritten
   pub valid : HasWorld ended → IsValid (world_of start)
+  pub read_back : HasWorld ended → IsReadBack (world_of start) 0
 
 -- All that was done for a job, over the bytes that the input had left, of which some were taken. Where the output was
 -- called, the verdict is one that it may tell. Its worlds are valid.

@@ -1,11 +1,10 @@
 -- The starts that are built: what words ask for one, and the file that is written of it.
-use Rattle.std.specs.Prelude.{◌≡◌, ℕ, ◌*◌, ◌≤◌, Bool, false, ◌&&◌, nat_eq, nat_le, List, [], ◌∷◌, ◌++◌, codes, Option, None, Some, if◌then◌else◌}
+use Rattle.std.specs.Prelude.{◌≡◌, ℕ, ◌*◌, ◌≤◌, Bool, false, ◌&&◌, nat_eq, nat_le, List, [], ◌∷◌, codes, Option, None, Some, if◌then◌else◌}
 use Rattle.bfm_base.specs.declared.limits.TheConstants.{GREATEST_SIDE, LEAST_SIDE, MOST_MONOMERS, MOST_SITES}
 use Rattle.bfm_base.specs.declared.place.Shape.{Shape}
 use Rattle.bfm_geom.specs.Difference.{IsBox, is_periodic, side_of}
 use Rattle.bfm_world.specs.Configuration.{Configuration}
-use Rattle.bfm_writer.specs.Header.{header_text}
-use Rattle.bfm_writer.specs.Text.{group_text}
+use Rattle.bfm_session.specs.Written.{world_text}
 use Rattle.melt_builder.specs.Melt.{cells_in, melt_world}
 use Rattle.brush_builder.specs.Brush.{brush_world, feet_in, room_above}
 use Rattle.bfm_cli.specs.Words.{Key, number_for}
@@ -114,6 +113,6 @@ abbrev pub world_of : Start → Configuration
 world_of (Melt shape chains length) = melt_world shape chains length
 world_of (Brush shape spacing length) = brush_world shape spacing length
 
--- the file of a start: its header, and one frame at time 0
+-- the file of a start has one frame, at time 0
 abbrev pub start_text : Configuration → List ℕ
-start_text world = header_text world ++ group_text world 0 []
+start_text world = world_text world 0

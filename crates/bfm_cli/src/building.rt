@@ -1,14 +1,16 @@
 ghost use Rattle.std.specs.Prelude.{◌≡◌, ◌<◌, ◌≤◌, Err, IfErr, IfOk};
-ghost use Rattle.bfm_base.specs.Account.{Delivers, Sends};
-ghost use Rattle.bfm_world.specs.Configuration.{IsValid};
+ghost use Rattle.bfm_base.specs.Account.{Delivers};
+ghost use Rattle.bfm_base.specs.declared.limits.TheConstants.{GREATEST_SIDE};
+ghost use Rattle.bfm_world.specs.Configuration.{IsValid, reach_of};
+ghost use Rattle.bfm_session.specs.Written.{IsReadBack};
 ghost use Rattle.bfm_cli.specs.Promise.{DoesBuilt};
 ghost use Rattle.bfm_cli.specs.Start.{need_of, room_of, start_text, world_of, IsStart};
 
 use crate::ending::{Ending, Fault};
 use crate::start::Start;
 use bfm_base::{Failed, Sink};
+use bfm_session::write_world;
 use bfm_world::{BuildFault, World};
-use bfm_writer::{group, header};
 use brush_builder::brush;
 use melt_builder::melt;
 use std::alloc::Global;
@@ -36,6 +38,7 @@ fn world_of(alloc: Global, start: &Start) -> Result<World, BuildFault>
     ensures room { need_of start.now ≤ room_of start.now → IfErr result (λ fault. fault ≡ BuildFault.Memory) }
     ensures world { IfOk result (λ world. world ≡ world_of start.now) }
     ensures valid { IfOk result IsValid }
+    ensures near { IfOk result (λ world. reach_of world.positions ≤ GREATEST_SIDE) }
 {
     match start {
         Start::Melt {
@@ -51,18 +54,11 @@ fn world_of(alloc: Global, start: &Start) -> Result<World, BuildFault>
     }
 }
 
-/// Writes the file of a start, and flushes.
+/// Writes the file of a start, and flushes. The file gives the start back.
 fn write_start<O: Sink>(world: &World, output: &mut O) -> Result<(), Failed>
-    ensures { Delivers result (O.account output.old) (O.account output.new) (start_text world.now) }
+    ensures delivered { Delivers result (O.account output.old) (O.account output.new) (start_text world.now) }
+    ensures read_back { reach_of world.now.positions ≤ GREATEST_SIDE → IsReadBack world.now 0 }
 {
-    write_text(world, output)?;
+    write_world(world, 0, output)?;
     output.flush()
-}
-
-/// Writes the file of a start: its header, and one frame at time 0.
-fn write_text<O: Sink>(world: &World, output: &mut O) -> Result<(), Failed>
-    ensures { Sends result (O.account output.old) (O.account output.new) (start_text world.now) }
-{
-    header(world, output)?;
-    group(world, 0, &[], output)
 }

@@ -7,12 +7,13 @@ ghost use Rattle.bfm_base.specs.declared.limits.TheConstants.{GREATEST_LIMIT, GR
 ghost use Rattle.crossing_check.specs.declared.judgement.SetVerdict.{SetVerdict};
 ghost use Rattle.bfm_commands.specs.Verdict.{verdict_of};
 ghost use Rattle.bfm_session.specs.Loading.{supply};
+ghost use Rattle.bfm_session.specs.Written.{IsReadBack};
 ghost use Rattle.bfm_cli.specs.Job.{job_of, IsFileJob};
 ghost use Rattle.bfm_cli.specs.Start.{need_of, room_of, start_text, world_of};
 ghost use Rattle.bfm_cli.specs.declared.start.Start.{Start};
-ghost use Rattle.bfm_cli.specs.Ending.{status_of};
+ghost use Rattle.bfm_cli.specs.Ending.{report_of, status_of};
 ghost use Rattle.bfm_cli.specs.Outcome.{JudgesInput, JudgesSetOf, first_crossing, limit_of, outcome_of};
-ghost use Rattle.bfm_cli.specs.Promise.{DoesAccepted, DoesOver, Tells, HasValidWorlds, NeedsNoInput, scene};
+ghost use Rattle.bfm_cli.specs.Promise.{DoesAccepted, DoesOver, Tells, HasFreeSet, HasNoCrossing, HasValidWorlds, NeedsNoInput, scene};
 ghost use Rattle.bfm_cli.specs.declared.ending.Ending.{Ending};
 ghost use Rattle.bfm_cli.specs.declared.ending.Fault.{Fault};
 
@@ -58,10 +59,20 @@ pub fn run_tool<I: Source, O: Sink, P: Sink>(
     // Each state of a run that was begun is a valid world, and so is a start that was built.
     ensures states { (result ≡ Status.Done) ⊎ (result ≡ Status.WriteFault) → IfSome (I.left input.old) (λ bytes. HasValidWorlds (job_of (map string_bytes words.now)) bytes) }
 
-    // What needs no input leaves it alone, wrong words and starts. A start that is done was written whole, of a valid world for which there is room.
+    // Where the set of the file is free, no move of a run that was begun takes a bond through another that shares no monomer with
+    // it, in any image; nor does one of a run whose report says so.
+    ensures uncrossed { (result ≡ Status.Done) ⊎ (result ≡ Status.WriteFault) → IfSome (I.left input.old) (λ bytes. HasFreeSet (verdict_of bytes)
+        → HasNoCrossing (job_of (map string_bytes words.now)) bytes) }
+    ensures told_free { result ≡ Status.Done → IfSome (I.left input.old) (λ bytes. (verdict : SetVerdict)
+        × Delivered (P.account report.old) (P.account report.new) (report_of (outcome_of (map string_bytes words.now) bytes verdict).ending)
+        × (verdict ≡ SetVerdict.Free → HasNoCrossing (job_of (map string_bytes words.now)) bytes)) }
+
+    // What needs no input leaves it alone, wrong words and starts. A start that is done was written whole, of a valid world for which
+    // there is room, and its file gives that world back.
     ensures unread { NeedsNoInput (job_of (map string_bytes words.now)) → input.new ≡ input.old }
     ensures built { result ≡ Status.Done → (start : Start) → job_of (map string_bytes words.now) ≡ Ok (Job.Build start)
-        → (need_of start ≤ room_of start) × IsValid (world_of start) × Delivered (O.account output.old) (O.account output.new) (start_text (world_of start)) }
+        → (need_of start ≤ room_of start) × IsValid (world_of start) × Delivered (O.account output.old) (O.account output.new) (start_text (world_of start))
+        × IsReadBack (world_of start) 0 }
 
     // Two verdicts on the set of one file differ in their weights alone.
     ensures one_verdict { (bytes : List ℕ) (a b : SetVerdict) → JudgesSetOf bytes a → JudgesSetOf bytes b → IfOk (verdict_of bytes) (λ _. first_crossing a ≡ first_crossing b) }

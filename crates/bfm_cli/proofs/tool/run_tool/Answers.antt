@@ -1,4 +1,5 @@
 use Rattle.bfm_commands.specs.Verdict.{verdict_of}
+use Rattle.bfm_cli.proofs.CrossingLemmas.{free-told, uncrossed-told}
 use Rattle.bfm_cli.proofs.OutcomeLemmas.{NeedsNoInput-words, outcome-told, reads-all, unread-by, words-only, words-told}
 use Rattle.bfm_cli.proofs.StartLemmas.{built-told}
 use Rattle.bfm_cli.proofs.VerdictLemmas.{JudgesSet-one}
@@ -26,3 +27,9 @@ returns-clause-bad_words g c wrong =
     let bad = words-only c.work-ended.result _ _ c.work-ended.ensures wrong in
     let told = words-told c.work-ended.result bad.0 _ _ c.tell.result _ _ _ bad.1 c.work-ended.ensures c.tell.ensures in
     (told.0, unread-by c.work-ended.result _ _ c.work-ended.ensures (NeedsNoInput-words _ wrong), told.1)
+
+pub returns-clause-uncrossed : goal.returns-clause-uncrossed
+returns-clause-uncrossed g c told = uncrossed-told c.work-ended.result _ _ c.tell.result _ _ _ c.work-ended.ensures c.tell.ensures told
+
+pub returns-clause-told_free : goal.returns-clause-told_free
+returns-clause-told_free g c done = free-told c.work-ended.result _ _ c.tell.result _ _ _ c.work-ended.ensures c.tell.ensures done
