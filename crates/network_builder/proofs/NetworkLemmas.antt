@@ -1,20 +1,23 @@
 -- A network whose monomers are all placed, and one whose strands are joined along all axes too.
-use Rattle.std.proofs.Common.{◌≡◌, ℕ, zero, suc, ◌<◌, ◌≤◌, Bool, true, false, ◌||◌, ◌⊎◌, inl, inr, List, [], length, replicate, refl, ap, sym, ◌∙◌, subst, arith}
+use Rattle.std.proofs.Common.{◌≡◌, ℕ, zero, suc, ◌+◌, ◌<◌, ◌≤◌, Bool, true, false, ◌||◌, ◌⊎◌, inl, inr, List, [], length, map, replicate, refl, ap, sym, ◌∙◌, subst, arith}
+use Rattle.std.specs.List.{range_with_len}
 use Rattle.std.proofs.lemmas.Bool.{and_parts, cases_lt}
 use Rattle.std.proofs.lemmas.List.FromFn.{fill_by_all, get_or-map-range_with_len}
+use Rattle.bfm_base.specs.declared.limits.TheConstants.{GREATEST_SIDE}
 use Rattle.bfm_base.specs.declared.place.P3.{P3}
+use Rattle.bfm_base.specs.Place.{extent_of}
 use Rattle.bfm_base.specs.Direction.{step_of}
 use Rattle.bfm_geom.specs.Difference.{plus, minus, wrapped}
 use Rattle.bond_set.specs.UsualSet.{usual_set}
 use Rattle.bfm_world.specs.Bonds.{neighbours_of, are_bonded, AreBonds}
-use Rattle.bfm_world.specs.Configuration.{Configuration, IsValid, position_of}
+use Rattle.bfm_world.specs.Configuration.{Configuration, IsValid, position_of, reach_of}
 use Rattle.bfm_world.specs.Draft.{Draft, begun, with_positions, with_bonds}
 use Rattle.bfm_world.proofs.BondLemmas.{has, test-eq}
 use Rattle.network_builder.specs.declared.nodes.Axis.{Axis}
 use Rattle.network_builder.specs.declared.nodes.Axis.TheVariants.{X, Y, Z}
 use Rattle.network_builder.specs.Network.{IsNetwork, monomers_in, network_shape, place_of, network_positions, is_on, next_along, comes_after, are_joined_along, are_joined, network_neighbours, network_bonds, network_world, direction_along}
 use Rattle.network_builder.proofs.CellLemmas.{next_along-below}
-use Rattle.network_builder.proofs.GeometryLemmas.{length-network_positions, position_at-network, wrapped-next}
+use Rattle.network_builder.proofs.GeometryLemmas.{length-network_positions, place_of-near, position_at-network, wrapped-next}
 use Rattle.network_builder.proofs.RowLemmas.{ascending_same, IsAscending-filter, inside-filter, beyond-filter}
 
 pub no_neighbours : (n i : ℕ) → neighbours_of (replicate n []) i ≡ []
@@ -113,3 +116,17 @@ steps-network w nodes strand axis i j net e l after =
     ∙ (ap (λ q. wrapped (network_shape nodes strand) (minus q (position_of (network_world nodes strand) i))) (position_at-network nodes strand j l')
     ∙ (ap (λ p. wrapped (network_shape nodes strand) (minus (place_of nodes strand j) p)) (position_at-network nodes strand i l)
     ∙ subst (λ k. wrapped (network_shape nodes strand) (minus (place_of nodes strand k) (place_of nodes strand i)) ≡ plus (step_of (direction_along axis)) (step_of (direction_along axis))) here (wrapped-next nodes strand net axis i l parts.0)))
+
+-- places that are each no further than a bound reach no further
+reach_of-map-range_with_len : (place : ℕ → P3) (first n most : ℕ) → ((k : ℕ) → k < first + n → extent_of (place k) ≤ most) → reach_of (map place (range_with_len first n)) ≤ most
+reach_of-map-range_with_len place first zero most near = omega arith
+reach_of-map-range_with_len place first (suc n) most near =
+    let here : extent_of (place first) ≤ most = near first (omega arith) in
+    let rest : reach_of (map place (range_with_len (first + 1) n)) ≤ most = reach_of-map-range_with_len place (first + 1) n most (λ k l. near k (omega arith)) in
+    omega arith
+
+-- no coordinate of a network is above the greatest side
+pub near-network : (w : Configuration) (nodes strand : ℕ) → IsNetwork nodes strand → w ≡ network_world nodes strand → reach_of w.positions ≤ GREATEST_SIDE
+near-network w nodes strand net e =
+    subst (λ (c : Configuration). reach_of c.positions ≤ GREATEST_SIDE) (sym e)
+    (reach_of-map-range_with_len (place_of nodes strand) 0 (monomers_in nodes strand) GREATEST_SIDE (λ k l. place_of-near nodes strand net k (omega arith)))

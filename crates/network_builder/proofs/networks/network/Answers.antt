@@ -1,6 +1,6 @@
 use Rattle.std.proofs.Common.{◌≡◌, ◌*◌, length, ap, arith}
 use Rattle.network_builder.proofs.GeometryLemmas.{IsBox-network}
-use Rattle.network_builder.proofs.NetworkLemmas.{placed, begun_placed, unbonded, still_placed, length-still_placed, all_joined, exact_network, bonded-network, steps-network}
+use Rattle.network_builder.proofs.NetworkLemmas.{placed, begun_placed, unbonded, still_placed, length-still_placed, all_joined, exact_network, bonded-network, near-network, steps-network}
 use Rattle.network_builder.proofs.networks.network.Goals as goal
 
 pub new-requires-clause-shape : goal.new-requires-clause-shape
@@ -48,3 +48,6 @@ returns-clause-bonded c = λ i j. bonded-network c.finish.result c.args.nodes c.
 
 pub returns-clause-steps : goal.returns-clause-steps
 returns-clause-steps c = λ axis i j. steps-network c.finish.result c.args.nodes c.args.strand axis i j c.requires.network (returns-clause-world c)
+
+pub returns-clause-near : goal.returns-clause-near
+returns-clause-near c = near-network c.finish.result c.args.nodes c.args.strand c.requires.network (returns-clause-world c)
