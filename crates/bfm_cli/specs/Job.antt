@@ -4,7 +4,7 @@ use Rattle.std.specs.Str.{bytes_eq}
 use Rattle.bfm_base.specs.declared.limits.TheConstants.{GREATEST_LIMIT, MOST_FRAMES, MOST_SWEEPS, USUAL_LIMIT}
 use Rattle.bfm_session.specs.declared.analysis.Ask.{Ask}
 use Rattle.bfm_session.specs.declared.analysis.Ask.TheVariants.{Check, Info}
-use Rattle.bfm_cli.specs.Start.{IsStart, brush_in, brush_keys, melt_in, melt_keys}
+use Rattle.bfm_cli.specs.Start.{IsStart, brush_in, brush_keys, melt_in, melt_keys, network_in, network_keys}
 use Rattle.bfm_cli.specs.Words.{Key, first_wrong, number_for}
 use Rattle.bfm_cli.specs.declared.job.FileJob.{FileJob}
 use Rattle.bfm_cli.specs.declared.job.FileJob.TheVariants.{Run, Look}
@@ -63,6 +63,7 @@ abbrev pub build_of : List (List ℕ) → Result Job ℕ
 build_of [] = Err 2
 build_of (kind ∷ words) =
     if bytes_eq kind (codes "melt") then started words (first_wrong melt_keys [] words) (melt_in words)
+    else if bytes_eq kind (codes "network") then started words (first_wrong network_keys [] words) (network_in words)
     else if bytes_eq kind (codes "brush") then started words (first_wrong brush_keys [] words) (brush_in words)
     else Err 2
 

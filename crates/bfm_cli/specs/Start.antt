@@ -7,9 +7,10 @@ use Rattle.bfm_world.specs.Configuration.{Configuration}
 use Rattle.bfm_session.specs.Written.{world_text}
 use Rattle.melt_builder.specs.Melt.{cells_in, melt_world}
 use Rattle.brush_builder.specs.Brush.{brush_world, feet_in, room_above}
+use Rattle.network_builder.specs.Network.{IsNetwork, monomers_in, network_world, side_for}
 use Rattle.bfm_cli.specs.Words.{Key, number_for}
 use Rattle.bfm_cli.specs.declared.start.Start.{Start}
-use Rattle.bfm_cli.specs.declared.start.Start.TheVariants.{Brush, Melt}
+use Rattle.bfm_cli.specs.declared.start.Start.TheVariants.{Brush, Melt, Network}
 
 -- a side of the box
 abbrev pub side_key : List ℕ → Key
@@ -26,6 +27,13 @@ count_key name = record { name = name; least = 1; greatest = MOST_MONOMERS; usua
 -- how far apart feet are
 abbrev pub spacing_key : Key
 spacing_key = record { name = codes "spacing"; least = 2; greatest = GREATEST_SIDE; usual = None }
+
+-- how many nodes stand along each axis of a network, and how many monomers a strand has
+abbrev pub nodes_key : Key
+nodes_key = record { name = codes "nodes"; least = 1; greatest = 128; usual = None }
+
+abbrev pub strand_key : Key
+strand_key = record { name = codes "strand"; least = 0; greatest = 255; usual = None }
 
 abbrev pub x_key : Key
 x_key = side_key (codes "x")
@@ -56,6 +64,9 @@ melt_keys = x_key ∷ y_key ∷ z_key ∷ chains_key ∷ length_key ∷ px_key �
 
 abbrev pub brush_keys : List Key
 brush_keys = x_key ∷ y_key ∷ z_key ∷ spacing_key ∷ length_key ∷ px_key ∷ py_key ∷ []
+
+abbrev pub network_keys : List Key
+network_keys = nodes_key ∷ strand_key ∷ []
 
 -- the number of a key is 1
 abbrev pub is_one : Option ℕ → Bool
@@ -92,26 +103,40 @@ brush_in words =
     let periodic = is_one (number_for px_key words) ∷ is_one (number_for py_key words) ∷ false ∷ [] in
     brush_of (box_in words periodic) (number_for spacing_key words) (number_for length_key words)
 
+-- a network, where its box is neither too small nor too large and it has not too many monomers
+abbrev pub network_of : Option ℕ → Option ℕ → Option Start
+network_of (Some nodes) (Some strand) =
+    if nat_le LEAST_SIDE (side_for nodes strand) && nat_le (side_for nodes strand) 256 && nat_le (monomers_in nodes strand) MOST_MONOMERS then Some (Network nodes strand) else None
+network_of nodes strand = None
+
+abbrev pub network_in : List (List ℕ) → Option Start
+network_in words = network_of (number_for nodes_key words) (number_for strand_key words)
+
 -- the numbers of a start are in their ranges and go together
 abbrev pub IsStart : Start → Type 0
 IsStart (Melt shape chains length) = IsBox shape × (1 ≤ chains) × (1 ≤ length) × (chains * length ≤ MOST_MONOMERS)
 IsStart (Brush shape spacing length) =
     IsBox shape × (is_periodic shape 2 ≡ false) × (2 ≤ spacing) × (spacing ≤ side_of shape 0) × (spacing ≤ side_of shape 1)
     × (1 ≤ length) × (feet_in shape spacing * length ≤ MOST_MONOMERS)
+IsStart (Network nodes strand) = IsNetwork nodes strand
 
--- how much room a start needs, and how much there is: cells for a melt, monomers of an upright chain for a brush
+-- How much room a start needs, and how much there is: cells for a melt, monomers of an upright chain for a brush. The box of a
+-- network is as large as it needs.
 abbrev pub need_of : Start → ℕ
 need_of (Melt shape chains length) = chains * length
 need_of (Brush shape spacing length) = length
+need_of (Network nodes strand) = monomers_in nodes strand
 
 abbrev pub room_of : Start → ℕ
 room_of (Melt shape chains length) = cells_in shape
 room_of (Brush shape spacing length) = room_above shape
+room_of (Network nodes strand) = monomers_in nodes strand
 
 -- the world of a start
 abbrev pub world_of : Start → Configuration
 world_of (Melt shape chains length) = melt_world shape chains length
 world_of (Brush shape spacing length) = brush_world shape spacing length
+world_of (Network nodes strand) = network_world nodes strand
 
 -- the file of a start has one frame, at time 0
 abbrev pub start_text : Configuration → List ℕ

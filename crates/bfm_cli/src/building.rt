@@ -13,6 +13,7 @@ use bfm_session::write_world;
 use bfm_world::{BuildFault, World};
 use brush_builder::brush;
 use melt_builder::melt;
+use network_builder::network;
 use std::alloc::Global;
 
 /// Builds a start and writes its file, and flushes. The output is called only once the start stands,
@@ -51,6 +52,7 @@ fn world_of(alloc: Global, start: &Start) -> Result<World, BuildFault>
             spacing,
             length,
         } => brush(alloc, *shape, *spacing, *length),
+        Start::Network { nodes, strand } => Ok(network(alloc, *nodes, *strand)?),
     }
 }
 

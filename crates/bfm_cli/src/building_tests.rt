@@ -20,16 +20,22 @@ const BRUSH_FRAME: &str =
 
 const FEET: &str = "!bfm_fixed\n1\n5\n9\n13\n";
 
+/// The bonds of a node with three strands of three that no line of its frame shows, and that frame.
+const NETWORK_BONDS: &str = "!bonds\n1 4\n1 5\n1 7\n1 8\n1 10\n";
+
+const NETWORK_FRAME: &str = "!mcs=0\n0 0 0 \x11\x11\x11\n0 2 0 \x12\x12\n0 0 2 \x13\x13\n";
+
 const ONE_MONOMER: &str = "!mcs=0\n0 0 0\n";
 
 // (words, number of monomers, z side, which axes are periodic, what stands behind the set, the frame)
 #[rattlefmt::skip]
-const STARTS: [(&str, &str, &str, [&str; 3], &str, &str); 6] = [
+const STARTS: [(&str, &str, &str, [&str; 3], &str, &str); 7] = [
     ("build melt x=8 y=8 z=8 chains=16 length=4", "64", "8", ["1", "1", "1"], "", MELT_FRAME),
     ("build melt length=4 pz=0 chains=16 px=0 z=9 y=8 x=8", "64", "9", ["0", "1", "0"], "", MELT_FRAME),
     ("build melt x=8 y=8 z=8 chains=1 length=1 py=0", "1", "8", ["1", "0", "1"], "", ONE_MONOMER),
     ("build brush x=8 y=8 z=9 spacing=4 length=4", "16", "9", ["1", "1", "0"], FEET, BRUSH_FRAME),
     ("build brush x=8 y=8 z=8 spacing=4 length=4 py=0 px=1", "16", "8", ["1", "0", "0"], FEET, BRUSH_FRAME),
+    ("build network strand=3 nodes=1", "10", "8", ["1", "1", "1"], NETWORK_BONDS, NETWORK_FRAME),
     ("build brush z=8 y=8 x=8 spacing=8 length=1", "1", "8", ["1", "1", "0"], "!bfm_fixed\n1\n", ONE_MONOMER),
 ];
 
@@ -50,7 +56,7 @@ fn starts_are_written_whole(rt: HostRuntime) -> Result<(), Fail> {
 
 #[test]
 fn a_run_of_no_frames_gives_a_start_back(rt: HostRuntime) -> Result<(), Fail> {
-    for (words, ..) in [STARTS[1], STARTS[3]] {
+    for (words, ..) in [STARTS[1], STARTS[3], STARTS[5]] {
         let built = answer_over(rt.alloc(), words, b"")?;
         let file = built.output.bytes();
         let again = answer_over(rt.alloc(), "run seed=1 frames=0 every=1", file)?;
@@ -88,7 +94,7 @@ fn answer_over(alloc: Global, words: &str, input: &[u8]) -> Result<Answer, Alloc
 // The last right value of each range and of each rule of two numbers, where there is too little room, and the first wrong
 // one, with the number of the wrong word: (words, status, report).
 #[rattlefmt::skip]
-const REFUSALS: [(&str, Status, &str); 46] = [
+const REFUSALS: [(&str, Status, &str); 59] = [
     ("build", Status::BadWords, "words 2\n"),
     ("build pile x=8", Status::BadWords, "words 2\n"),
     ("build x=8 melt", Status::BadWords, "words 2\n"),
@@ -122,6 +128,19 @@ const REFUSALS: [(&str, Status, &str); 46] = [
     ("build melt y=8 z=8 chains=1 length=1", Status::BadWords, "words 7\n"),
     ("build melt x=8 y=8 z=8 chains=1", Status::BadWords, "words 7\n"),
     ("build melt", Status::BadWords, "words 3\n"),
+    ("build network", Status::BadWords, "words 3\n"),
+    ("build network nodes=0 strand=3", Status::BadWords, "words 3\n"),
+    ("build network nodes=129 strand=0", Status::BadWords, "words 3\n"),
+    ("build network nodes=128 strand=0", Status::BadWords, "words 5\n"),
+    ("build network nodes=65 strand=0", Status::BadWords, "words 5\n"),
+    ("build network nodes=3 strand=0", Status::BadWords, "words 5\n"),
+    ("build network nodes=1 strand=2", Status::BadWords, "words 5\n"),
+    ("build network nodes=1 strand=128", Status::BadWords, "words 5\n"),
+    ("build network nodes=1 strand=255", Status::BadWords, "words 5\n"),
+    ("build network nodes=1 strand=256", Status::BadWords, "words 4\n"),
+    ("build network nodes=1", Status::BadWords, "words 4\n"),
+    ("build network nodes=1 nodes=1 strand=3", Status::BadWords, "words 4\n"),
+    ("build network nodes=1 strand=3 x=8", Status::BadWords, "words 5\n"),
     ("build brush x=8 y=8 z=9 spacing=4 length=5", Status::NoRoom, "room 5 4\n"),
     ("build brush x=8 y=8 z=8 spacing=1 length=1", Status::BadWords, "words 6\n"),
     ("build brush x=8 y=8 z=8 spacing=2 length=5", Status::NoRoom, "room 5 4\n"),

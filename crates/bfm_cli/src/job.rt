@@ -3,7 +3,7 @@ ghost use Rattle.bfm_cli.specs.Start.{IsStart};
 ghost use Rattle.bfm_cli.specs.Job.{build_of, job_of, look_keys, look_of, run_keys, run_of, started, IsInRange};
 ghost use Rattle.bfm_cli.specs.Words.{first_wrong};
 
-use crate::start::{BRUSH_KEYS, MELT_KEYS, Start, brush_in, melt_in};
+use crate::start::{BRUSH_KEYS, MELT_KEYS, NETWORK_KEYS, Start, brush_in, melt_in, network_in};
 use crate::words::{Key, first_wrong, number_for};
 use bfm_base::limits::{GREATEST_LIMIT, MOST_FRAMES, MOST_SWEEPS, USUAL_LIMIT};
 use bfm_session::{Ask, RunOrder};
@@ -120,6 +120,8 @@ fn build_of(words: &[String]) -> Result<Job, u64>
     };
     if kind.as_str() == "melt" {
         started(words, first_wrong(&MELT_KEYS, words), melt_in(words))
+    } else if kind.as_str() == "network" {
+        started(words, first_wrong(&NETWORK_KEYS, words), network_in(words))
     } else if kind.as_str() == "brush" {
         started(words, first_wrong(&BRUSH_KEYS, words), brush_in(words))
     } else {

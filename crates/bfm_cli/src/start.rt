@@ -1,5 +1,5 @@
 ghost use Rattle.std.specs.Prelude.{◌≡◌, map, string_bytes, IfSome};
-ghost use Rattle.bfm_cli.specs.Start.{box_in, brush_in, is_one, melt_in, IsStart};
+ghost use Rattle.bfm_cli.specs.Start.{box_in, brush_in, is_one, melt_in, network_in, IsStart};
 ghost use Rattle.bfm_cli.specs.Keys.{key_of};
 ghost use Rattle.bfm_cli.specs.Words.{number_for};
 ghost use Rattle.bfm_geom.specs.Difference.{IsBox};
@@ -25,6 +25,12 @@ pub enum Start {
         shape: Shape,
         spacing: u32,
         length: u32,
+    },
+    /// So many nodes along each axis, each joined to the next ones by strands of so many monomers,
+    /// at most 2^18 monomers in all, in a periodic box that is as large as this needs.
+    Network {
+        nodes: u32,
+        strand: u32,
     },
 }
 
@@ -75,11 +81,31 @@ const SPACING: Key = Key {
     usual: None,
 };
 
+const NODES: Key = Key {
+    name: "nodes",
+    least: 1,
+    greatest: 128,
+    usual: None,
+};
+
+const STRAND: Key = Key {
+    name: "strand",
+    least: 0,
+    greatest: 255,
+    usual: None,
+};
+
+/// The greatest side of the box of a network, in lattice units.
+const GREATEST_NETWORK_SIDE: u64 = 256;
+
 /// The keys of a melt.
 pub const MELT_KEYS: [Key; 8] = [X, Y, Z, CHAINS, LENGTH, PERIODIC_X, PERIODIC_Y, PERIODIC_Z];
 
 /// The keys of a brush, whose z axis is walled.
 pub const BRUSH_KEYS: [Key; 7] = [X, Y, Z, SPACING, LENGTH, PERIODIC_X, PERIODIC_Y];
+
+/// The keys of a network.
+pub const NETWORK_KEYS: [Key; 2] = [NODES, STRAND];
 
 /// The melt that words ask for, which are right for its keys. There is none where a number is
 /// missing or they ask for too many sites or monomers.
@@ -130,6 +156,27 @@ pub fn brush_in(words: &[String]) -> Option<Start>
         shape,
         spacing,
         length,
+    })
+}
+
+/// The network that words ask for, which are right for its keys. There is none where a number is
+/// missing, its box would be too small or too large, or it would have too many monomers.
+pub fn network_in(words: &[String]) -> Option<Start>
+    ensures value { result ≡ network_in (map string_bytes words.now) }
+    ensures range { IfSome result IsStart }
+{
+    let nodes = number_for(&NODES, words)?;
+    let strand = number_for(&STRAND, words)?;
+    let side = 2 * nodes * (strand + 1);
+    if side < u64::from(LEAST_SIDE) || side > GREATEST_NETWORK_SIDE {
+        return None;
+    }
+    if nodes * nodes * nodes * (1 + 3 * strand) > u64::from(MOST_MONOMERS) {
+        return None;
+    }
+    Some(Start::Network {
+        nodes: nodes as u32,
+        strand: strand as u32,
     })
 }
 
