@@ -1,18 +1,21 @@
 -- A melt whose monomers are all placed, and one whose chains are joined too.
-use Rattle.std.proofs.Common.{◌≡◌, ℕ, ◌+◌, ◌*◌, ◌<◌, true, List, length, ap, sym, ◌∙◌, subst, arith, pos, ◌↔◌}
+use Rattle.std.proofs.Common.{◌≡◌, ℕ, zero, suc, ◌+◌, ◌*◌, ◌<◌, ◌≤◌, true, List, length, map, ap, sym, ◌∙◌, subst, arith, pos, ◌↔◌}
+use Rattle.std.specs.List.{range_with_len}
 use Rattle.std.proofs.lemmas.List.FromFn.{get_or-map-range_with_len}
+use Rattle.bfm_base.specs.declared.limits.TheConstants.{GREATEST_SIDE}
 use Rattle.bfm_base.specs.declared.place.P3.{P3}
 use Rattle.bfm_base.specs.declared.place.Shape.{Shape}
+use Rattle.bfm_base.specs.Place.{extent_of}
 use Rattle.bfm_geom.specs.Difference.{IsBox}
 use Rattle.bond_set.specs.UsualSet.{usual_set}
 use Rattle.bfm_world.specs.Bonds.{are_bonded}
-use Rattle.bfm_world.specs.Configuration.{Configuration, may_bond, position_at, position_of}
+use Rattle.bfm_world.specs.Configuration.{Configuration, may_bond, position_at, position_of, reach_of}
 use Rattle.bfm_world.specs.Draft.{Draft, begun, with_positions, with_bonds}
 use Rattle.bfm_world.specs.Chains.{chain_bonds, AreSuccessive, LiesTwoOn}
-use Rattle.melt_builder.specs.Melt.{place_of, melt_positions, melt_world}
+use Rattle.melt_builder.specs.Melt.{cells_in, place_of, melt_positions, melt_world}
 use Rattle.bfm_world.proofs.ChainLemmas.{are_bonded-chain_bonds}
 use Rattle.bfm_world.proofs.StartLemmas.{may_bond-two}
-use Rattle.melt_builder.proofs.PlaceLemmas.{length-melt_positions, place_of-next}
+use Rattle.melt_builder.proofs.PlaceLemmas.{length-melt_positions, place_of-near, place_of-next}
 
 abbrev pub placed : Shape → ℕ → Draft
 placed shape n = with_positions (begun shape usual_set n) (melt_positions shape n)
@@ -54,3 +57,17 @@ bonded-melt w shape chains size i j e l =
 pub next-melt : (w : Configuration) (shape : Shape) (chains size k : ℕ) → IsBox shape → w ≡ melt_world shape chains size → k + 1 < chains * size → LiesTwoOn (position_of w k) (position_of w (k + 1))
 next-melt w shape chains size k box e l =
     subst (λ (c : Configuration). LiesTwoOn (position_of c k) (position_of c (k + 1))) (sym e) (next_of shape (chains * size) k box l)
+
+-- places that are each no further than a bound reach no further
+reach_of-map-range_with_len : (place : ℕ → P3) (first n most : ℕ) → ((k : ℕ) → k < first + n → extent_of (place k) ≤ most) → reach_of (map place (range_with_len first n)) ≤ most
+reach_of-map-range_with_len place first zero most near = omega arith
+reach_of-map-range_with_len place first (suc n) most near =
+    let here : extent_of (place first) ≤ most = near first (omega arith) in
+    let rest : reach_of (map place (range_with_len (first + 1) n)) ≤ most = reach_of-map-range_with_len place (first + 1) n most (λ k l. near k (omega arith)) in
+    omega arith
+
+-- no coordinate of a melt is above the greatest side
+pub near-melt : (w : Configuration) (shape : Shape) (chains size : ℕ) → IsBox shape → w ≡ melt_world shape chains size → chains * size ≤ cells_in shape → reach_of w.positions ≤ GREATEST_SIDE
+near-melt w shape chains size box e room =
+    subst (λ (c : Configuration). reach_of c.positions ≤ GREATEST_SIDE) (sym e)
+    (reach_of-map-range_with_len (place_of shape) 0 (chains * size) GREATEST_SIDE (λ k l. place_of-near shape box k (omega arith)))

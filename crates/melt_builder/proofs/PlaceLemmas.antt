@@ -2,6 +2,7 @@
 use Rattle.std.proofs.Common.{◌≡◌, ℕ, ◌+◌, ◌*◌, ◌/◌, ◌<◌, ◌≤◌, true, length, ap, ◌∙◌, arith, pos}
 use Rattle.std.proofs.lemmas.Int.{ints}
 use Rattle.std.proofs.lemmas.List.FromFn.{length-map-range_with_len}
+use Rattle.bfm_base.specs.declared.limits.TheConstants.{GREATEST_SIDE}
 use Rattle.bfm_base.specs.declared.place.Dir.TheVariants.{XUp, XDown, YUp, YDown, ZUp}
 use Rattle.bfm_base.specs.declared.place.Shape.{Shape}
 use Rattle.bfm_base.specs.Place.{extent_of}
@@ -57,8 +58,8 @@ module _ (shape : Shape) (box : IsBox shape) where
     apart = λ j m. overlaps-apart shape (place_of shape j) (place_of shape k) (λ close. let same = same_cell j k (omega arith) l close in absurd (omega arith));
   }
 
-  -- no coordinate is above twice a side
-  pub place_of-near : (k : ℕ) → k < cells_in shape → extent_of (place_of shape k) ≤ 1024
+  -- no coordinate is above the greatest side
+  pub place_of-near : (k : ℕ) → k < cells_in shape → extent_of (place_of shape k) ≤ GREATEST_SIDE
   place_of-near k l = omega (arith, box.sides.x.1, box.sides.y.1, box.sides.z.1, column_below k, row_below k, height_below k l)
 
   -- the next cell lies beside this one

@@ -1,9 +1,9 @@
 ghost use Rattle.std.specs.Prelude.{◌≡◌, ◌↔◌, ℕ, ◌+◌, ◌*◌, ◌<◌, ◌≤◌, true, Err, IfOk, IfErr, length};
-ghost use Rattle.bfm_base.specs.declared.limits.TheConstants.{MOST_MONOMERS};
+ghost use Rattle.bfm_base.specs.declared.limits.TheConstants.{GREATEST_SIDE, MOST_MONOMERS};
 ghost use Rattle.bfm_geom.specs.Difference.{IsBox};
 ghost use Rattle.bfm_world.specs.Bonds.{are_bonded};
 ghost use Rattle.bfm_world.specs.Chains.{AreSuccessive, LiesTwoOn};
-ghost use Rattle.bfm_world.specs.Configuration.{IsValid, position_of};
+ghost use Rattle.bfm_world.specs.Configuration.{IsValid, position_of, reach_of};
 ghost use Rattle.bfm_world.specs.declared.build_fault.BuildFault.{BuildFault};
 ghost use Rattle.melt_builder.specs.Melt.{cells_in, melt_world};
 
@@ -15,7 +15,8 @@ use std::alloc::Global;
 
 /// Builds a melt of so many chains of so many monomers each (at most 2^18 monomers in all), with the
 /// usual set. It is refused with `NoRoom` where it needs more cells of two sites a side than the box
-/// has. Each bond is two lattice units along an axis, which is as short as a bond may be.
+/// has. Each bond is two lattice units along an axis, which is as short as a bond may be. No
+/// coordinate is beyond 512 lattice units.
 pub fn melt(alloc: Global, shape: Shape, chains: u32, length: u32) -> Result<World, BuildFault>
     requires box_limits { IsBox shape }
     requires some_chains { 1 ≤ chains }
@@ -26,6 +27,7 @@ pub fn melt(alloc: Global, shape: Shape, chains: u32, length: u32) -> Result<Wor
     ensures room { chains * length ≤ cells_in shape → IfErr result (λ fault. fault ≡ BuildFault.Memory) }
     ensures world { IfOk result (λ world. world ≡ melt_world shape chains length) }
     ensures valid { IfOk result IsValid }
+    ensures near { IfOk result (λ world. reach_of world.positions ≤ GREATEST_SIDE) }
 
     // Who is bonded to whom, and how each monomer lies to the one before it.
     ensures bonded { IfOk result (λ world. (i j : ℕ) → i < chains * length

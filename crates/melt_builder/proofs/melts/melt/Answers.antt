@@ -1,8 +1,8 @@
-use Rattle.std.proofs.Common.{◌≡◌, ◌*◌, ◌∙◌, ap, arith, rules}
+use Rattle.std.proofs.Common.{◌≡◌, ◌*◌, ◌≤◌, ◌∙◌, ap, arith, rules}
 use Rattle.bfm_world.specs.Draft.{Draft}
-use Rattle.melt_builder.specs.Melt.{melt_world}
+use Rattle.melt_builder.specs.Melt.{cells_in, melt_world}
 use Rattle.bfm_world.proofs.ChainLemmas.{goes_on-last}
-use Rattle.melt_builder.proofs.MeltLemmas.{placed, all_placed, all_joined, length-placed, length-joined, may_bond-placed, bonded-melt, next-melt}
+use Rattle.melt_builder.proofs.MeltLemmas.{placed, all_placed, all_joined, length-placed, length-joined, may_bond-placed, bonded-melt, next-melt, near-melt}
 use Rattle.melt_builder.proofs.melts.melt.Goals as goal
 
 pub join_chains-requires-clause-placed : goal.join_chains-requires-clause-placed
@@ -39,3 +39,9 @@ pub returns-clause-steps : goal.returns-clause-steps
 returns-clause-steps c =
     let e : c.finish.result ≡ melt_world c.args.shape c.args.chains c.args.length = search rules in
     λ k l. next-melt c.finish.result c.args.shape c.args.chains c.args.length k c.requires.box_limits e l
+
+pub returns-clause-near : goal.returns-clause-near
+returns-clause-near c =
+    let e : c.finish.result ≡ melt_world c.args.shape c.args.chains c.args.length = search rules in
+    let room : c.args.chains * c.args.length ≤ cells_in c.args.shape = omega arith in
+    near-melt c.finish.result c.args.shape c.args.chains c.args.length c.requires.box_limits e room
