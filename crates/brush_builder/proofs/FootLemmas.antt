@@ -4,6 +4,7 @@ use Rattle.std.proofs.Math.Nat.{mul_comm, mul-le-mul_right}
 use Rattle.std.proofs.lemmas.Bool.{cases_order}
 use Rattle.std.proofs.lemmas.Int.{ints}
 use Rattle.std.proofs.lemmas.Nat.{mod_below, div_below, div-add-mod', le-div, mul-le}
+use Rattle.bfm_base.specs.declared.limits.TheConstants.{GREATEST_SIDE}
 use Rattle.bfm_base.specs.declared.place.Dir.TheVariants.{ZUp}
 use Rattle.bfm_base.specs.declared.place.Shape.{Shape}
 use Rattle.bfm_base.specs.Place.{extent_of}
@@ -82,7 +83,7 @@ module _ (shape : Shape) (box : IsBox shape) (spacing size : ℕ) (two : 2 ≤ s
   }
 
   -- no coordinate is above the greatest side
-  pub place_of-near : (k : ℕ) → k < feet_in shape spacing * size → extent_of (place_of shape spacing size k) ≤ 512
+  pub place_of-near : (k : ℕ) → k < feet_in shape spacing * size → extent_of (place_of shape spacing size k) ≤ GREATEST_SIDE
   place_of-near k l = omega (arith, box.sides.x.1, box.sides.y.1, box.sides.z.1, x_fits k, y_fits k l, z_fits k)
 
   -- the next monomer of a chain stands two units above

@@ -1,9 +1,9 @@
 ghost use Rattle.std.specs.Prelude.{◌≡◌, ◌↔◌, ℕ, ◌*◌, ◌<◌, ◌≤◌, true, false, Err, IfOk, IfErr};
-ghost use Rattle.bfm_base.specs.declared.limits.TheConstants.{MOST_MONOMERS};
+ghost use Rattle.bfm_base.specs.declared.limits.TheConstants.{GREATEST_SIDE, MOST_MONOMERS};
 ghost use Rattle.bfm_geom.specs.Difference.{IsBox, side_of, is_periodic};
 ghost use Rattle.bfm_world.specs.Bonds.{are_bonded};
 ghost use Rattle.bfm_world.specs.Chains.{AreSuccessive};
-ghost use Rattle.bfm_world.specs.Configuration.{IsValid, is_fixed};
+ghost use Rattle.bfm_world.specs.Configuration.{IsValid, is_fixed, reach_of};
 ghost use Rattle.bfm_world.specs.declared.build_fault.BuildFault.{BuildFault};
 ghost use Rattle.brush_builder.specs.Brush.{feet_in, room_above, brush_world, is_foot};
 
@@ -15,8 +15,8 @@ use std::alloc::Global;
 
 /// Builds a brush of upright chains of so many monomers each (at most 2^18 monomers in all), with
 /// the usual set, on feet that stand so far apart (2 to 512 lattice units) and are fixed. It is
-/// refused with
-/// `NoRoom` where a chain has more monomers than fit upright between the walls of the z axis.
+/// refused with `NoRoom` where a chain has more monomers than fit upright between the walls of the
+/// z axis. No coordinate is beyond 512 lattice units.
 pub fn brush(alloc: Global, shape: Shape, spacing: u32, length: u32) -> Result<World, BuildFault>
     requires box_limits { IsBox shape }
     requires walled { is_periodic shape 2 ≡ false }
@@ -29,6 +29,7 @@ pub fn brush(alloc: Global, shape: Shape, spacing: u32, length: u32) -> Result<W
     ensures room { length ≤ room_above shape → IfErr result (λ fault. fault ≡ BuildFault.Memory) }
     ensures world { IfOk result (λ world. world ≡ brush_world shape spacing length) }
     ensures valid { IfOk result IsValid }
+    ensures near { IfOk result (λ world. reach_of world.positions ≤ GREATEST_SIDE) }
 
     // Which monomers are fixed: the first of each chain.
     ensures feet { IfOk result (λ world. (i : ℕ) → i < feet_in shape spacing * length → is_fixed world i ≡ is_foot length i) }

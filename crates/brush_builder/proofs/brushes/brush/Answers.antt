@@ -2,7 +2,7 @@ use Rattle.std.proofs.Common.{◌≡◌, ◌*◌, ◌≤◌, ◌∙◌, ap, sym,
 use Rattle.bfm_world.specs.Draft.{Draft}
 use Rattle.bfm_world.proofs.ChainLemmas.{goes_on-last}
 use Rattle.brush_builder.specs.Brush.{room_above, brush_world}
-use Rattle.brush_builder.proofs.BrushLemmas.{placed, all_placed, length-placed, length-joined, may_bond-placed, bonded-brush}
+use Rattle.brush_builder.proofs.BrushLemmas.{placed, all_placed, length-placed, length-joined, may_bond-placed, bonded-brush, near-brush}
 use Rattle.brush_builder.proofs.FixLemmas.{fixed-brush}
 use Rattle.brush_builder.proofs.FootLemmas.{some_monomers}
 use Rattle.brush_builder.proofs.brushes.brush.Goals as goal
@@ -43,3 +43,9 @@ pub returns-clause-feet : goal.returns-clause-feet
 returns-clause-feet c =
     let e : c.finish.result ≡ brush_world c.args.shape c.args.spacing c.args.length = search rules in
     λ i l. fixed-brush c.finish.result c.args.shape c.args.spacing c.args.length i e l
+
+pub returns-clause-near : goal.returns-clause-near
+returns-clause-near c =
+    let e : c.finish.result ≡ brush_world c.args.shape c.args.spacing c.args.length = search rules in
+    let room : c.args.length ≤ room_above c.args.shape = omega arith in
+    near-brush c.finish.result c.args.shape c.args.spacing c.args.length c.requires.box_limits c.requires.apart c.requires.across c.requires.deep c.requires.some_monomers room e
