@@ -5,8 +5,14 @@ pub mod ReadBackBonded
 pub mod ReadBackBonds
 pub mod ReadBackEach
 pub mod ReadBackEntries
+pub mod ReadBackFile
 pub mod ReadBackFrame
+pub mod ReadBackGroup
 pub mod ReadBackHeader
+pub mod ReadBackJob
+pub mod ReadBackKept
+pub mod ReadBackLater
+pub mod ReadBackLimit
 pub mod ReadBackLines
 pub mod ReadBackListed
 pub mod ReadBackLists
@@ -17,7 +23,9 @@ pub mod ReadBackPlacing
 pub mod ReadBackPlain
 pub mod ReadBackRows
 pub mod ReadBackRowsOf
+pub mod ReadBackRun
 pub mod ReadBackSettings
+pub mod ReadBackSweeps
 pub mod ReadBackTime
 pub mod ReadBackVectors
 pub mod ReadBackWalk

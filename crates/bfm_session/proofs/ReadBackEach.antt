@@ -11,7 +11,7 @@ use Rattle.bfm_writer.specs.Header.{values_of, periodic_value}
 use Rattle.bfm_commands.specs.declared.commands.Known.{Known}
 use Rattle.bfm_commands.specs.declared.commands.Known.TheVariants.{NumberOfMonomers, BoxX, BoxY, BoxZ, PeriodicX, PeriodicY, PeriodicZ, SetOfBondVectors, Bonds, Attributes, Valence, Fixed, Mcs}
 use Rattle.bfm_session.proofs.ReadBackLines.{IsRow, each-append, each-map}
-use Rattle.bfm_session.proofs.ReadBackRows.{value_row, vector_row, pair_row, mark_row, number_row, frame_row, listed_rows, listed_pairs, listed_marks, listed_fixed, mark_rows, list_rows, header_rows, world_rows}
+use Rattle.bfm_session.proofs.ReadBackRows.{value_row, vector_row, pair_row, mark_row, number_row, frame_row, listed_rows, listed_pairs, listed_marks, listed_fixed, mark_rows, list_rows, header_rows, frame_rows, world_rows}
 use Rattle.bfm_session.proofs.ReadBackEntries.{IsShort-extent}
 use Rattle.bfm_session.proofs.ReadBackMeanings.{command_row, IsRow-command, IsRow-assigned}
 use Rattle.bfm_session.proofs.ReadBackPlain.{IsRow-vector, IsRow-pair, IsRow-mark, IsRow-number, IsRow-frame}
@@ -95,7 +95,10 @@ each_frame_row w ok near =
 pub IsRow-blank : IsRow []
 IsRow-blank = record { plain = refl; short = omega arith }
 
+pub each_group_row : (w : Configuration) (mcs : ℕ) → IsValid w → reach_of w.positions ≤ 2 ^ 44 → mcs ≤ 2 ^ 40 → AllByRecursion IsRow ([] ∷ frame_rows w mcs)
+each_group_row w mcs ok near early =
+    (IsRow-blank, (IsRow-assigned Mcs mcs (omega (arith, early)), each-map (λ row. IsRow (frame_row row)) IsRow frame_row (rows_of w) (each_frame_row w ok near) (λ row r. r)))
+
 pub each_world_row : (w : Configuration) (mcs : ℕ) → IsValid w → reach_of w.positions ≤ 2 ^ 44 → mcs ≤ 2 ^ 40 → AllByRecursion IsRow (world_rows w mcs)
 each_world_row w mcs ok near early =
-    each-append IsRow (header_rows w) _ (each-append IsRow (map value_row (values_of w)) (list_rows w) (each_value w ok) (each_list_row w ok))
-    (IsRow-blank, (IsRow-assigned Mcs mcs (omega (arith, early)), each-map (λ row. IsRow (frame_row row)) IsRow frame_row (rows_of w) (each_frame_row w ok near) (λ row r. r)))
+    each-append IsRow (header_rows w) ([] ∷ frame_rows w mcs) (each-append IsRow (map value_row (values_of w)) (list_rows w) (each_value w ok) (each_list_row w ok)) (each_group_row w mcs ok near early)

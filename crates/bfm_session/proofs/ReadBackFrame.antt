@@ -30,7 +30,7 @@ use Rattle.bfm_session.proofs.ReadBackPlacing.{partly, string_cause-none}
 use Rattle.bfm_session.proofs.ReadBackTime.{InFrame}
 
 -- as many positions as identifiers, and one
-length-row : (set : List (P3 × ℕ)) (row : Row) → length (row_positions set row) ≡ length row.ids + 1
+pub length-row : (set : List (P3 × ℕ)) (row : Row) → length (row_positions set row) ≡ length row.ids + 1
 length-row set row = ap length (sym (string_positions-row set row)) ∙ omega (arith, length-walk set row.start row.ids)
 
 -- What one row of a frame adds.

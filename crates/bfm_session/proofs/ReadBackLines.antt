@@ -92,14 +92,6 @@ without_return-row (b ∷ bs) r =
 pub is_long-row : (row : List ℕ) → IsRow row → is_long row ≡ false
 is_long-row row r = let short = r.short in grind (arith, nat_tests)
 
--- The lines of rows are those rows, whatever stands behind them.
-pub finished_lines-rows : (rows : List (List ℕ)) (rest : List ℕ) → AllByRecursion IsRow rows → finished_lines (text_of rows ++ rest) ≡ rows ++ finished_lines rest
-finished_lines-rows [] rest each = refl
-finished_lines-rows (row ∷ rows) rest each =
-    ap finished_lines (append_assoc (row ++ 10 ∷ []) (text_of rows) rest ∙ append_assoc row (10 ∷ []) (text_of rows ++ rest))
-    ∙ finished_lines-line row (text_of rows ++ rest) (finished_lines-none row (plain_newline row each.0.plain))
-    ∙ ap (λ l. row ∷ l) (finished_lines-rows rows rest each.1)
-
 -- What holds of each of some things.
 
 pub each-append : {X : Type 0} (P : X → Type 0) (xs ys : List X) → AllByRecursion P xs → AllByRecursion P ys → AllByRecursion P (xs ++ ys)
@@ -117,3 +109,15 @@ each-map P Q f (x ∷ xs) all step = (step x all.0, each-map P Q f xs all.1 step
 pub each-weaker : {X : Type 0} (P Q : X → Type 0) (xs : List X) → AllByRecursion P xs → ((x : X) → P x → Q x) → AllByRecursion Q xs
 each-weaker P Q [] all step = tt
 each-weaker P Q (x ∷ xs) all step = (step x all.0, each-weaker P Q xs all.1 step)
+
+-- The lines of rows are those rows, whatever stands behind them.
+pub finished_lines-each : (rows : List (List ℕ)) (rest : List ℕ) → AllByRecursion (λ row. finished_lines row ≡ []) rows → finished_lines (text_of rows ++ rest) ≡ rows ++ finished_lines rest
+finished_lines-each [] rest each = refl
+finished_lines-each (row ∷ rows) rest each =
+    ap finished_lines (append_assoc (row ++ 10 ∷ []) (text_of rows) rest ∙ append_assoc row (10 ∷ []) (text_of rows ++ rest))
+    ∙ finished_lines-line row (text_of rows ++ rest) each.0
+    ∙ ap (λ l. row ∷ l) (finished_lines-each rows rest each.1)
+
+pub finished_lines-rows : (rows : List (List ℕ)) (rest : List ℕ) → AllByRecursion IsRow rows → finished_lines (text_of rows ++ rest) ≡ rows ++ finished_lines rest
+finished_lines-rows rows rest each =
+    finished_lines-each rows rest (each-weaker IsRow (λ row. finished_lines row ≡ []) rows each (λ row r. finished_lines-none row (plain_newline row r.plain)))

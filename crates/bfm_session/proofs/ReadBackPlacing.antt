@@ -1,7 +1,7 @@
 -- A row of the frame of a valid world is right behind the positions before it.
 use Rattle.std.proofs.Common.{◌≡◌, ℕ, zero, suc, ◌+◌, ◌<◌, ◌≤◌, Bool, true, false, not, nat_lt, List, [], ◌∷◌, ◌++◌, length, get_or, None, is_some, refl, sym, ap, ◌∙◌, subst, append_assoc, length-append, arith}
 use Rattle.std.specs.Prelude.{slice_get}
-use Rattle.std.specs.List.{list_all}
+use Rattle.std.specs.List.{AllByRecursion, list_all}
 use Rattle.std.proofs.lemmas.Bool.{or_from}
 use Rattle.std.proofs.lemmas.Bool.Decides.{nat_tests}
 use Rattle.std.proofs.lemmas.List.{get_or_at, get_or_append_left}
@@ -15,7 +15,7 @@ use Rattle.bfm_world.specs.Configuration.{Configuration, IsValid, is_clear, may_
 use Rattle.bfm_world.specs.Draft.{Draft}
 use Rattle.bfm_world.proofs.BondLemmas.{has}
 use Rattle.bfm_commands.specs.History.{with_pairs, string_positions, chain}
-use Rattle.bfm_commands.specs.Causes.{some_fails, is_apart, is_bonded_well, is_overfull, string_cause}
+use Rattle.bfm_commands.specs.Causes.{some_fails, is_apart, is_bonded_well, is_overfull, some_unbonded, string_cause}
 use Rattle.bfm_commands.proofs.FrameLemmas.{all_from}
 use Rattle.bfm_commands.proofs.WalkLemmas.{length-walk}
 use Rattle.bfm_session.proofs.ReadBackBonds.{IsPartOf, room_for_all}
@@ -97,6 +97,38 @@ string_cause-none w ok positions more bonds line known place part =
     some_fails-none (is_bonded_well (partly w positions joined).world) w.positions (λ before p rest e. keeps w ok before p rest e joined part) positions ps more place in
     let few : is_overfull joined ≡ false = room_for_all (length w.positions) w.bonds ok.bonds joined part in
     rw (known, fits, walls, apart, bonded, few) refl
+  where
+    short : (n m : ℕ) → m ≤ n → nat_lt n m ≡ false
+    short n m l = grind (arith, nat_tests)
+
+-- all bonds of a world are part of them
+pub IsPartOf-all : (w : Configuration) → IsValid w → IsPartOf (length w.positions) w.bonds w.bonds
+IsPartOf-all w ok = record { are = ok.bonds; within = λ i j there. there }
+
+-- pairs that are bonded
+some_unbonded-bonded : (bonds : List (List ℕ)) (pairs : List (ℕ × ℕ)) → AllByRecursion (λ pair. are_bonded bonds pair.0 pair.1 ≡ true) pairs → some_unbonded bonds pairs ≡ false
+some_unbonded-bonded bonds [] each = refl
+some_unbonded-bonded bonds (pair ∷ pairs) each = or_from (not (are_bonded bonds pair.0 pair.1)) (some_unbonded bonds pairs) (ap not each.0) (some_unbonded-bonded bonds pairs each.1)
+
+-- In a later frame its successive monomers are bonded already.
+pub string_cause-later : (w : Configuration) → IsValid w → (positions more : List P3) (line : P3 × List ℕ)
+    → list_all (λ id. is_some (vector_of w.set id)) line.1 ≡ true → positions ++ (string_positions w.set line ++ more) ≡ w.positions
+    → AllByRecursion (λ pair. are_bonded w.bonds pair.0 pair.1 ≡ true) (chain (length positions) (length line.1))
+    → string_cause false (partly w positions w.bonds) line ≡ None
+string_cause-later w ok positions more line known place shown =
+    let ps = string_positions w.set line in
+    let total = ap length place in
+    let size : length positions + 1 + length line.1 ≤ length w.positions =
+    omega (arith, total, length-append positions (ps ++ more), length-append ps more, length-walk w.set line.0 line.1) in
+    let fits : nat_lt (length w.positions) (length positions + 1 + length line.1) ≡ false = short (length w.positions) (length positions + 1 + length line.1) size in
+    let walls : some_fails (λ before p. is_within_walls w.shape p) positions ps ≡ false =
+    some_fails-none (λ before p. is_within_walls w.shape p) w.positions (within w ok) positions ps more place in
+    let apart : some_fails (is_apart (partly w positions w.bonds).world) positions ps ≡ false =
+    some_fails-none (is_apart (partly w positions w.bonds).world) w.positions (clear w ok) positions ps more place in
+    let bonded : some_fails (is_bonded_well (partly w positions w.bonds).world) positions ps ≡ false =
+    some_fails-none (is_bonded_well (partly w positions w.bonds).world) w.positions (λ before p rest e. keeps w ok before p rest e w.bonds (IsPartOf-all w ok)) positions ps more place in
+    let there = some_unbonded-bonded w.bonds (chain (length positions) (length line.1)) shown in
+    rw (known, fits, walls, apart, bonded, there) refl
   where
     short : (n m : ℕ) → m ≤ n → nat_lt n m ≡ false
     short n m l = grind (arith, nat_tests)

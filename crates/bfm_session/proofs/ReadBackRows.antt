@@ -185,6 +185,10 @@ header_text-rows w =
 frame_text-rows : (w : Configuration) (mcs : ℕ) → frame_text w mcs ≡ text_of (frame_rows w mcs)
 frame_text-rows w mcs = ap (λ l. time_line mcs ++ l) (text_of-map frame_row row_text (rows_of w) frame_line-row)
 
+-- one more frame behind others
+pub group_text-rows : (w : Configuration) (mcs : ℕ) → group_text w mcs [] ≡ text_of ([] ∷ frame_rows w mcs)
+group_text-rows w mcs = ap (λ l. 10 ∷ l) (frame_text-rows w mcs)
+
 -- all that is written of a world with one frame
 pub world_text-rows : (w : Configuration) (mcs : ℕ) → header_text w ++ group_text w mcs [] ≡ text_of (world_rows w mcs)
-world_text-rows w mcs = both_texts (header_text w) (group_text w mcs []) (header_rows w) ([] ∷ frame_rows w mcs) (header_text-rows w) (ap (λ l. 10 ∷ l) (frame_text-rows w mcs))
+world_text-rows w mcs = both_texts (header_text w) (group_text w mcs []) (header_rows w) ([] ∷ frame_rows w mcs) (header_text-rows w) (group_text-rows w mcs)

@@ -79,7 +79,7 @@ Says-command before said line known rest s is starts =
     Says-other before said s line (command (Some known) rest) is (Command known) (given_as known (role_of known) rest ++ said.given) starts refl
     (no_entry (owner_of before) (Some known) rest) refl refl
 
-no_entry_nothing : (owner : Owner) (known : Known) → entry_of known owner nothing ≡ None
+pub no_entry_nothing : (owner : Owner) (known : Known) → entry_of known owner nothing ≡ None
 no_entry_nothing Nobody known = refl
 no_entry_nothing Unknown known = refl
 no_entry_nothing (Command owner) known = refl
@@ -126,7 +126,7 @@ pub newest_first-append : (before : History) (xs ys : List (List ℕ)) → newes
 newest_first-append before [] ys = refl
 newest_first-append before (x ∷ xs) ys = newest_first-append (x ∷ before) xs ys
 
-both_right : (n : ℕ) (cause : Option Cause) (later : Option Refused) → refused_at n cause later ≡ None → (cause ≡ None) × (later ≡ None)
+pub both_right : (n : ℕ) (cause : Option Cause) (later : Option Refused) → refused_at n cause later ≡ None → (cause ≡ None) × (later ≡ None)
 both_right n None later e = (refl, e)
 both_right n (Some cause) later e = absurd (cc)
 

@@ -1,19 +1,17 @@
 -- What is written of a valid world with one frame is read back as the same world.
-use Rattle.std.proofs.Common.{◌≡◌, ℕ, ◌+◌, ◌^◌, ◌≤◌, true, cond, List, [], ◌∷◌, ◌++◌, map, length, None, Ok, Err, nat_eq, sym, ap, ◌∙◌, subst, append-nil, length-append, arith}
+use Rattle.std.proofs.Common.{◌≡◌, ℕ, ◌^◌, ◌≤◌, true, List, [], ◌∷◌, ◌++◌, map, length, None, Ok, sym, ap, ◌∙◌, subst, append-nil, arith}
 use Rattle.std.specs.List.{AllByRecursion, flat_map}
-use Rattle.bfm_base.specs.declared.cause.Cause.TheVariants.{NoFrame}
 use Rattle.bfm_world.specs.Bonds.{are_bonded}
 use Rattle.bfm_world.specs.Configuration.{Configuration, IsValid, reach_of}
-use Rattle.bfm_world.specs.Draft.{Draft}
 use Rattle.bfm_lexer.specs.Lines.{finished_lines}
 use Rattle.bfm_writer.specs.Rows.{Row, rows_of, row_positions}
 use Rattle.bfm_writer.specs.Header.{header_text}
 use Rattle.bfm_writer.specs.Text.{group_text}
 use Rattle.bfm_writer.proofs.RowPositions.{rows_of-positions}
 use Rattle.bfm_commands.specs.Meaning.{nothing}
-use Rattle.bfm_commands.specs.History.{History, listed_bonds, with_pairs, mcs_of, draft_of, last_whole}
+use Rattle.bfm_commands.specs.History.{History, listed_bonds, with_pairs}
 use Rattle.bfm_commands.specs.Causes.{cause_of}
-use Rattle.bfm_commands.specs.Verdict.{newest_first, refused_at, first_wrong, bytes_in, loaded_of, whole_or, verdict_of}
+use Rattle.bfm_commands.specs.Verdict.{newest_first, refused_at, first_wrong, first_wrong_of, bytes_in, verdict_of}
 use Rattle.bfm_commands.specs.declared.loaded.Loaded.{Loaded}
 use Rattle.bfm_session.specs.Written.{loaded_back, world_text}
 use Rattle.bfm_session.proofs.ReadBackLines.{text_of, finished_lines-rows, IsRow}
@@ -26,13 +24,11 @@ use Rattle.bfm_session.proofs.ReadBackSettings.{HasThree}
 use Rattle.bfm_session.proofs.ReadBackRowsOf.{IsGoodRow, shown_from, each_shown}
 use Rattle.bfm_session.proofs.ReadBackTime.{listed_part, time_cause, InFrame-begun, frames_of-begun}
 use Rattle.bfm_session.proofs.ReadBackFrame.{IsRead, FrameReads, frame_reads}
+use Rattle.bfm_session.proofs.ReadBackPlacing.{partly}
+use Rattle.bfm_session.proofs.ReadBackLater.{Holds}
+use Rattle.bfm_session.proofs.ReadBackFile.{bytes_in-rows, verdict_of-held}
 use Rattle.bfm_session.proofs.ReadBackEach.{IsRow-blank, each_good_row, each_frame_row, each_world_row}
 use Rattle.bfm_session.proofs.ReadBackBonded.{bonds_read, bonds_back}
-
--- all bytes of rows are counted
-bytes_in-rows : (before : History) (rows : List (List ℕ)) → bytes_in (newest_first before rows) ≡ bytes_in before + length (text_of rows)
-bytes_in-rows before [] = omega arith
-bytes_in-rows before (row ∷ rows) = omega (arith, bytes_in-rows (row ∷ before) rows, length-append (row ++ 10 ∷ []) (text_of rows), length-append row (10 ∷ []))
 
 module _ (w : Configuration) (ok : IsValid w) (has : HasThree w.shape) (near : reach_of w.positions ≤ 2 ^ 44) (mcs : ℕ) (early : mcs ≤ 2 ^ 40) where
   -- the lines of the header, and those up to the time
@@ -85,24 +81,26 @@ module _ (w : Configuration) (ok : IsValid w) (has : HasThree w.shape) (near : r
       ap finished_lines (world_text-rows w mcs ∙ sym (append-nil (text_of (world_rows w mcs))))
       ∙ (finished_lines-rows (world_rows w mcs) [] (each_world_row w mcs ok near early) ∙ append-nil (world_rows w mcs))
 
-  gives : loaded_of (length (world_text w mcs)) lines ≡ loaded_back w mcs
-  gives =
-      let whole = lines_read.last in
-      let world : (draft_of (last_whole lines)).world ≡ w =
-      ap (λ l. (draft_of l).world) whole ∙ (ap (λ (d : Draft). d.world) lines_read.frame.draft ∙ ap (λ bonds. record w { bonds = bonds }) (bonds_back w ok)) in
-      let time : mcs_of (last_whole lines) ≡ mcs = ap mcs_of whole ∙ lines_read.frame.time in
-      let size : bytes_in lines ≡ length (text_of (world_rows w mcs)) = omega (arith, bytes_in-rows [] (world_rows w mcs)) in
-      let kept : bytes_in (last_whole lines) ≡ length (world_text w mcs) = ap bytes_in whole ∙ (size ∙ ap length (sym (world_text-rows w mcs))) in
-      let first = lines_read.first_ones in
-      let frames = lines_read.frames in
-      let skipped = lines_read.frame.skipped in
-      λ i. record { world = world i; first = first i; mcs = time i; frames = frames i; kept = kept i; total = length (world_text w mcs); skipped = skipped i }
+  -- no line of it is wrong
+  pub first_wrong_of-written : first_wrong_of (world_text w mcs) ≡ None
+  first_wrong_of-written = ap (first_wrong []) lines_back ∙ none_wrong
+
+  holds : Holds w mcs (record { first = w.positions; frames = 1; skipped = 0 }) lines
+  holds =
+      let frame = lines_read.frame in
+      record {
+        begun = frame.begun;
+        draft = frame.draft ∙ ap (λ bonds. partly w w.positions bonds) (bonds_back w ok);
+        time = frame.time;
+        first_ones = lines_read.first_ones;
+        frame_count = lines_read.frames;
+        some = λ none. absurd (omega (arith, none));
+        skips = frame.skipped;
+      }
 
   -- What is written of a world is accepted, and gives the world, whole, with one frame.
   pub verdict_of-written : verdict_of (world_text w mcs) ≡ Ok (loaded_back w mcs)
   verdict_of-written =
-      let total = length (world_text w mcs) in
-      ap (λ rows. whole_or total (newest_first [] rows) (first_wrong [] rows)) lines_back
-      ∙ (ap (whole_or total lines) none_wrong
-      ∙ (ap (λ n. cond (nat_eq n 0) (Err (record { line = length lines + 1; cause = NoFrame })) (Ok (loaded_of total lines))) lines_read.frames
-      ∙ ap (λ loaded. Ok loaded) gives))
+      let size : bytes_in lines ≡ length (text_of (world_rows w mcs)) = omega (arith, bytes_in-rows [] (world_rows w mcs)) in
+      verdict_of-held (world_text w mcs) w mcs (record { first = w.positions; frames = 1; skipped = 0 }) lines (ap (newest_first []) lines_back) first_wrong_of-written holds lines_read.last
+      (size ∙ ap length (sym (world_text-rows w mcs)))
