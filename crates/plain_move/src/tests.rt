@@ -96,3 +96,47 @@ fn a_bond_stretches_as_far_as_the_set_goes(rt: HostRuntime) -> Result<(), Fail> 
     assert_eq!(rt; engine.world().position(1), P3 { x: 3, y: 0, z: 0 });
     Ok(())
 }
+
+// The set is not free. Seen along z the bonds of the first two and of the last two monomers lie across each other, and
+// the step takes the one through the other: both pass (1, 1, 0).
+#[test]
+fn a_step_takes_a_bond_through_another_where_the_set_allows_it(
+    rt: HostRuntime,
+) -> Result<(), Fail> {
+    let mut set = BondSet::new(rt.alloc());
+    set.add(P3 { x: 2, y: 2, z: 0 }, 17)?;
+    set.add(P3 { x: -2, y: -2, z: 0 }, 18)?;
+    set.add(P3 { x: 2, y: 2, z: 1 }, 19)?;
+    set.add(
+        P3 {
+            x: -2,
+            y: -2,
+            z: -1,
+        },
+        20,
+    )?;
+    set.add(P3 { x: 2, y: -2, z: 0 }, 21)?;
+    set.add(P3 { x: -2, y: 2, z: 0 }, 22)?;
+    assert!(rt; set.finish().is_ok());
+    let shape = Shape {
+        sides: [16, 16, 16],
+        periodic: [true, true, true],
+    };
+    let mut builder = WorldBuilder::new(rt.alloc(), shape, set, 4)?;
+    assert!(rt; builder.join(0, 1) == Ok(true));
+    assert!(rt; builder.join(2, 3) == Ok(true));
+    assert!(rt; builder.place(P3 { x: 0, y: 0, z: 0 }).is_ok());
+    assert!(rt; builder.place(P3 { x: 2, y: 2, z: 0 }).is_ok());
+    assert!(rt; builder.placed() < builder.count() as usize);
+    assert!(rt; builder.place(P3 { x: 0, y: 2, z: 0 }).is_ok());
+    assert!(rt; builder.placed() < builder.count() as usize);
+    assert!(rt; builder.place(P3 { x: 2, y: 0, z: 0 }).is_ok());
+    assert!(rt; builder.placed() == builder.count() as usize);
+    let world = builder.finish();
+    assert_eq!(rt; world.len(), 4);
+    assert_eq!(rt; world.reach(), 2);
+    let mut engine = PlainEngine::new(world);
+    assert!(rt; engine.attempt(1, Dir::ZUp, 0));
+    assert_eq!(rt; engine.world().position(1), P3 { x: 2, y: 2, z: 1 });
+    Ok(())
+}
