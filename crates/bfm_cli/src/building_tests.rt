@@ -2,6 +2,7 @@ use crate::status::Status;
 use crate::tests::{run_over, usual_entries};
 use bfm_base::{MemSink, MemSource, Source};
 use std::alloc::{AllocError, Global};
+use std::process::Abort;
 use std::test::Fail;
 
 /// How much the output of a test takes, in bytes.
@@ -91,10 +92,26 @@ fn answer_over(alloc: Global, words: &str, input: &[u8]) -> Result<Answer, Alloc
     })
 }
 
+/// Words that the tool turns down leave output and input alone.
+fn is_turned_down(
+    rt: &impl Abort,
+    alloc: Global,
+    words: &str,
+    status: Status,
+    report: &str,
+) -> Result<(), Fail> {
+    let ended = answer_over(alloc, words, b"left alone")?;
+    assert_eq!(rt; ended.status, status, "{words}");
+    assert!(rt; ended.output.bytes().is_empty(), "{words}");
+    assert!(rt; ended.report.bytes() == report.as_bytes(), "{words}");
+    assert_eq!(rt; ended.left, 10, "{words}");
+    Ok(())
+}
+
 // The last right value of each range and of each rule of two numbers, where there is too little room, and the first wrong
 // one, with the number of the wrong word: (words, status, report).
 #[rattlefmt::skip]
-const REFUSALS: [(&str, Status, &str); 59] = [
+const CHAINS_OF_MELTS: [(&str, Status, &str); 14] = [
     ("build", Status::BadWords, "words 2\n"),
     ("build pile x=8", Status::BadWords, "words 2\n"),
     ("build x=8 melt", Status::BadWords, "words 2\n"),
@@ -109,6 +126,10 @@ const REFUSALS: [(&str, Status, &str); 59] = [
     ("build melt x=8 y=8 z=8 chains=512 length=513", Status::BadWords, "words 8\n"),
     ("build melt x=8 y=8 z=8 chains=0 length=1", Status::BadWords, "words 6\n"),
     ("build melt x=8 y=8 z=8 chains=1 length=0", Status::BadWords, "words 7\n"),
+];
+
+#[rattlefmt::skip]
+const BOXES_OF_MELTS: [(&str, Status, &str); 19] = [
     ("build melt x=7 y=8 z=8 chains=1 length=1", Status::BadWords, "words 3\n"),
     ("build melt x=8 y=7 z=8 chains=1 length=1", Status::BadWords, "words 4\n"),
     ("build melt x=8 y=8 z=7 chains=1 length=1", Status::BadWords, "words 5\n"),
@@ -128,6 +149,10 @@ const REFUSALS: [(&str, Status, &str); 59] = [
     ("build melt y=8 z=8 chains=1 length=1", Status::BadWords, "words 7\n"),
     ("build melt x=8 y=8 z=8 chains=1", Status::BadWords, "words 7\n"),
     ("build melt", Status::BadWords, "words 3\n"),
+];
+
+#[rattlefmt::skip]
+const NETWORKS: [(&str, Status, &str); 13] = [
     ("build network", Status::BadWords, "words 3\n"),
     ("build network nodes=0 strand=3", Status::BadWords, "words 3\n"),
     ("build network nodes=129 strand=0", Status::BadWords, "words 3\n"),
@@ -141,6 +166,10 @@ const REFUSALS: [(&str, Status, &str); 59] = [
     ("build network nodes=1", Status::BadWords, "words 4\n"),
     ("build network nodes=1 nodes=1 strand=3", Status::BadWords, "words 4\n"),
     ("build network nodes=1 strand=3 x=8", Status::BadWords, "words 5\n"),
+];
+
+#[rattlefmt::skip]
+const BRUSHES: [(&str, Status, &str); 13] = [
     ("build brush x=8 y=8 z=9 spacing=4 length=5", Status::NoRoom, "room 5 4\n"),
     ("build brush x=8 y=8 z=8 spacing=1 length=1", Status::BadWords, "words 6\n"),
     ("build brush x=8 y=8 z=8 spacing=2 length=5", Status::NoRoom, "room 5 4\n"),
@@ -157,13 +186,33 @@ const REFUSALS: [(&str, Status, &str); 59] = [
 ];
 
 #[test]
-fn wrong_words_and_boxes_with_too_little_room(rt: HostRuntime) -> Result<(), Fail> {
-    for (words, status, report) in REFUSALS {
-        let ended = answer_over(rt.alloc(), words, b"left alone")?;
-        assert_eq!(rt; ended.status, status, "{words}");
-        assert!(rt; ended.output.bytes().is_empty(), "{words}");
-        assert!(rt; ended.report.bytes() == report.as_bytes(), "{words}");
-        assert_eq!(rt; ended.left, 10, "{words}");
+fn chains_of_a_melt_are_turned_down(rt: HostRuntime) -> Result<(), Fail> {
+    for (words, status, report) in CHAINS_OF_MELTS {
+        is_turned_down(&rt, rt.alloc(), words, status, report)?;
+    }
+    Ok(())
+}
+
+#[test]
+fn boxes_of_a_melt_are_turned_down(rt: HostRuntime) -> Result<(), Fail> {
+    for (words, status, report) in BOXES_OF_MELTS {
+        is_turned_down(&rt, rt.alloc(), words, status, report)?;
+    }
+    Ok(())
+}
+
+#[test]
+fn networks_are_turned_down(rt: HostRuntime) -> Result<(), Fail> {
+    for (words, status, report) in NETWORKS {
+        is_turned_down(&rt, rt.alloc(), words, status, report)?;
+    }
+    Ok(())
+}
+
+#[test]
+fn brushes_are_turned_down(rt: HostRuntime) -> Result<(), Fail> {
+    for (words, status, report) in BRUSHES {
+        is_turned_down(&rt, rt.alloc(), words, status, report)?;
     }
     Ok(())
 }
@@ -184,7 +233,7 @@ fn each_call_of_a_start_fails_in_turn(rt: HostRuntime) -> Result<(), Fail> {
         assert!(rt; whole.output.bytes().starts_with(taken), "call {call}");
         if call <= length + 1 {
             assert_eq!(rt; status, Status::WriteFault, "call {call}");
-            assert!(rt; taken.len() as u64 == call - 1, "call {call}");
+            assert!(rt; taken.len() as u64 + 1 == call, "call {call}");
             assert!(rt; report.bytes() == b"write\n".as_slice(), "call {call}");
         } else {
             assert_eq!(rt; status, Status::Done, "call {call}");
