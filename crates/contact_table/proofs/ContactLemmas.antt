@@ -64,23 +64,28 @@ IsContactTable-with_threshold n table k l t = record {
   thresholds = All-push (λ t. t ≤ GREATEST_THRESHOLD) table.thresholds n t.thresholds k;
 }
 
--- two tables of the same weights are so for monomers without a class too
-weights_same : (s t : ContactTable) → IsContactTable s → IsContactTable t → ((a b : ℕ) → IsClass a → IsClass b → weight_of s a b ≡ weight_of t a b)
+-- two tables that agree on all pairs of classes agree on those with class 0
+agree : (s t : ContactTable) → IsContactTable s → IsContactTable t → ((a b : ℕ) → IsClass a → IsClass b → weight_of s a b ≡ weight_of t a b)
     → (a b : ℕ) → a ≤ GREATEST_CLASS → b ≤ GREATEST_CLASS → weight_of s a b ≡ weight_of t a b
-weights_same s t p q h zero b k l = p.unclassed b l ∙ sym (q.unclassed b l)
-weights_same s t p q h (suc a) zero k l =
+agree s t p q h zero b k l = p.unclassed b l ∙ sym (q.unclassed b l)
+agree s t p q h (suc a) zero k l =
     p.symmetric (suc a) 0 k l ∙ p.unclassed (suc a) k ∙ sym (q.unclassed (suc a) k) ∙ sym (q.symmetric (suc a) 0 k l)
-weights_same s t p q h (suc a) (suc b) k l = h (suc a) (suc b) (omega arith, k) (omega arith, l)
+agree s t p q h (suc a) (suc b) k l = h (suc a) (suc b) (omega arith, k) (omega arith, l)
+
+-- and have the same weights
+pub weights-same : (s t : ContactTable) → IsContactTable s → IsContactTable t → ((a b : ℕ) → IsClass a → IsClass b → weight_of s a b ≡ weight_of t a b)
+    → s.weights ≡ t.weights
+weights-same s t p q h =
+    let each : (i : ℕ) → i < length s.weights → get_or s.weights i (pos 0) ≡ get_or t.weights i (pos 0) = λ i l.
+    let row : i / 16 ≤ GREATEST_CLASS = omega (arith, p.pairs) in
+    let column : i % 16 ≤ GREATEST_CLASS = omega arith in
+    let place : pair_number (i / 16) (i % 16) ≡ i = omega arith in
+    subst (λ (n : ℕ). get_or s.weights n (pos 0) ≡ get_or t.weights n (pos 0)) place (agree s t p q h (i / 16) (i % 16) row column) in
+    ext_get_or (pos 0) s.weights t.weights (p.pairs ∙ sym q.pairs) each
 
 -- two tables of the same weights and thresholds are one
 pub ContactTable-same : (s t : ContactTable) → IsContactTable s → IsContactTable t
     → ((a b : ℕ) → IsClass a → IsClass b → weight_of s a b ≡ weight_of t a b) → s.thresholds ≡ t.thresholds → s ≡ t
 ContactTable-same s t p q h e =
-    let each : (i : ℕ) → i < length s.weights → get_or s.weights i (pos 0) ≡ get_or t.weights i (pos 0) = λ i l.
-    let row : i / 16 ≤ GREATEST_CLASS = omega (arith, p.pairs) in
-    let column : i % 16 ≤ GREATEST_CLASS = omega arith in
-    let place : pair_number (i / 16) (i % 16) ≡ i = omega arith in
-    subst (λ (n : ℕ). get_or s.weights n (pos 0) ≡ get_or t.weights n (pos 0)) place (weights_same s t p q h (i / 16) (i % 16) row column) in
-    let weights : s.weights ≡ t.weights = ext_get_or (pos 0) s.weights t.weights (p.pairs ∙ sym q.pairs) each in
     let made : List ℤ → List ℕ → ContactTable = λ weights thresholds. record { weights = weights; thresholds = thresholds } in
-    ap (λ w. made w s.thresholds) weights ∙ ap (made t.weights) e
+    ap (λ w. made w s.thresholds) (weights-same s t p q h) ∙ ap (made t.weights) e

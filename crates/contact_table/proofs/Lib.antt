@@ -1,1 +1,2 @@
 pub mod ContactLemmas
+pub mod EntryLemmas

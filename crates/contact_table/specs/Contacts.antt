@@ -4,7 +4,7 @@ use Rattle.std.specs.List.{All}
 use Rattle.bfm_base.specs.declared.limits.TheConstants.{GREATEST_CLASS, GREATEST_WEIGHT, GREATEST_THRESHOLD}
 use Rattle.contact_table.specs.declared.table.TheConstants.{MOST_THRESHOLDS}
 
--- by the number of a pair of classes the weight of a contact, and by the order of adding the thresholds of 1, 2 and so on
+-- the weight of a contact by the number of a pair of classes, and the thresholds of 1, 2 and so on
 pub record ContactTable : Type 0 where
   pub weights : List ℤ
   pub thresholds : List ℕ
@@ -13,7 +13,7 @@ pub record ContactTable : Type 0 where
 abbrev pub IsClass : ℕ → Type 0
 IsClass a = (1 ≤ a) × (a ≤ GREATEST_CLASS)
 
--- two classes in this order, of 16 with that of monomers without one
+-- the number of two classes in this order; there are 16 with class 0, which is that of monomers without one
 abbrev pub pair_number : ℕ → ℕ → ℕ
 pair_number a b = 16 * a + b
 
@@ -21,7 +21,7 @@ pair_number a b = 16 * a + b
 abbrev pub weight_of : ContactTable → ℕ → ℕ → ℤ
 weight_of table a b = slice_index_or table.weights (pair_number a b) (pos 0)
 
--- the threshold of a change of the sum of all weights: that of 1 is the first, and a change above the last one's has 0
+-- the threshold of a change delta of the sum of all weights: 2^32 up to 0, then the table's own, counted from 1, and 0 beyond the last
 abbrev pub threshold_of : ContactTable → ℤ → ℕ
 threshold_of table (negsuc n) = GREATEST_THRESHOLD
 threshold_of table (pos zero) = GREATEST_THRESHOLD
