@@ -1,6 +1,8 @@
 mod InfoLemmas
 pub mod LimitLemmas
 mod LoadLemmas
+pub mod PartsRun
+pub mod PartsSweeps
 pub mod ReadBackBonded
 pub mod ReadBackBonds
 pub mod ReadBackEach

@@ -3,6 +3,7 @@ pub mod CrossingText
 pub mod Info
 pub mod Loading
 pub mod NumberLines
+pub mod Parts
 pub mod Pieces
 pub mod Running
 pub mod Written

@@ -1,10 +1,12 @@
-ghost use Rattle.std.specs.Prelude.{◌≡◌, ◌+◌, ◌*◌, ◌≤◌, ◌++◌, length, IfOk};
+ghost use Rattle.std.specs.Prelude.{◌≡◌, ℕ, ◌+◌, ◌*◌, ◌≤◌, List, ◌++◌, length, take, Ok, IfOk};
 ghost use Rattle.bond_set.specs.Crossing.{IsFree};
 ghost use Rattle.bfm_base.specs.Account.{Sends, Delivers};
 ghost use Rattle.bfm_base.specs.declared.limits.TheConstants.{MOST_FRAMES, MOST_SWEEPS};
 ghost use Rattle.bfm_world.specs.Configuration.{reach_of};
 ghost use Rattle.sweep_run.specs.Sweep.{after_sweeps, begun_with, NoMoveCrosses};
-ghost use Rattle.bfm_session.specs.Running.{Runs, groups_text};
+ghost use Rattle.bfm_commands.specs.Verdict.{verdict_of};
+ghost use Rattle.bfm_session.specs.Parts.{GoesInParts, GoesOn};
+ghost use Rattle.bfm_session.specs.Running.{Runs, groups_text, run_text};
 ghost use Rattle.crossing_check.specs.declared.judgement.SetVerdict.{SetVerdict};
 
 use crate::order::RunOrder;
@@ -58,6 +60,13 @@ pub fn run<O: Sink>(
     // nor where the verdict on it says so.
     ensures uncrossed { IsFree loaded.world.set → NoMoveCrosses order.now.seed loaded.mcs loaded.world }
     ensures told_free { IfOk result (λ done. done.verdict ≡ SetVerdict.Free → NoMoveCrosses order.now.seed loaded.mcs loaded.world) }
+
+    // Where the kept part is that of an accepted file, a run can go on from the output. In whatever two parts the frames are made,
+    // the second writes in the end the bytes of the whole run.
+    ensures goes_on { IfOk result (λ _. (bytes : List ℕ) → verdict_of bytes ≡ Ok loaded → kept.now ≡ take loaded.kept bytes
+        → GoesOn loaded order.now (run_text loaded order.now kept.now)) }
+    ensures in_parts { IfOk result (λ _. (bytes : List ℕ) → verdict_of bytes ≡ Ok loaded → kept.now ≡ take loaded.kept bytes
+        → GoesInParts loaded order.now kept.now) }
 {
     let sweeps = order.frames * order.every;
     let mcs = u128::from(loaded.mcs) + u128::from(sweeps);
