@@ -13,6 +13,7 @@ ghost use Rattle.bfm_cli.specs.Start.{need_of, room_of, start_text, world_of};
 ghost use Rattle.bfm_cli.specs.declared.start.Start.{Start};
 ghost use Rattle.bfm_cli.specs.Ending.{report_of, status_of};
 ghost use Rattle.bfm_cli.specs.Outcome.{JudgesInput, JudgesSetOf, first_crossing, limit_of, outcome_of};
+ghost use Rattle.bfm_cli.specs.Parts.{WroteAsInParts};
 ghost use Rattle.bfm_cli.specs.Promise.{DoesAccepted, DoesOver, Tells, HasFreeSet, HasNoCrossing, HasValidWorlds, NeedsNoInput, scene};
 ghost use Rattle.bfm_cli.specs.declared.ending.Ending.{Ending};
 ghost use Rattle.bfm_cli.specs.declared.ending.Fault.{Fault};
@@ -66,6 +67,11 @@ pub fn run_tool<I: Source, O: Sink, P: Sink>(
     ensures told_free { result ≡ Status.Done → IfSome (I.left input.old) (λ bytes. (verdict : SetVerdict)
         × Delivered (P.account report.old) (P.account report.new) (report_of (outcome_of (map string_bytes words.now) bytes verdict).ending)
         × (verdict ≡ SetVerdict.Free → HasNoCrossing (job_of (map string_bytes words.now)) bytes)) }
+
+    // What a run has written that is done, it would have written in any two parts: a run with some of its frames over the same
+    // input, and then one with the others over the output of the first, under a limit that admits that.
+    ensures in_parts { result ≡ Status.Done → (order : RunOrder) → job_of (map string_bytes words.now) ≡ Ok (Job.File (FileJob.Run order))
+        → IfSome (I.left input.old) (λ bytes. WroteAsInParts order bytes (O.account output.old) (O.account output.new)) }
 
     // What needs no input leaves it alone, wrong words and starts. A start that is done was written whole, of a valid world for which
     // there is room, and its file gives that world back.

@@ -1,6 +1,7 @@
 use Rattle.bfm_commands.specs.Verdict.{verdict_of}
 use Rattle.bfm_cli.proofs.CrossingLemmas.{free-told, uncrossed-told}
 use Rattle.bfm_cli.proofs.OutcomeLemmas.{NeedsNoInput-words, outcome-told, reads-all, unread-by, words-only, words-told}
+use Rattle.bfm_cli.proofs.PartsLemmas.{in_parts-told}
 use Rattle.bfm_cli.proofs.StartLemmas.{built-told}
 use Rattle.bfm_cli.proofs.VerdictLemmas.{JudgesSet-one}
 use Rattle.bfm_cli.proofs.tool.run_tool.Goals as goal
@@ -18,6 +19,10 @@ returns-clause-unread g c needs_none = unread-by c.work-ended.result _ _ c.work-
 pub returns-clause-built : goal.returns-clause-built
 returns-clause-built g c done start job =
     built-told c.work-ended.result _ start _ c.tell.result _ _ _ job c.work-ended.ensures c.tell.ensures done
+
+pub returns-clause-in_parts : goal.returns-clause-in_parts
+returns-clause-in_parts g c done order job =
+    in_parts-told c.work-ended.result _ order _ c.tell.result _ _ _ job c.work-ended.ensures c.tell.ensures done
 
 pub returns-clause-one_verdict : goal.returns-clause-one_verdict
 returns-clause-one_verdict g c bytes a b p q = JudgesSet-one (verdict_of bytes) a b p q
