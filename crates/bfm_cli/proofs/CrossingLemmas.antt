@@ -1,5 +1,5 @@
 -- What is known of the moves of a run by the set of its file.
-use Rattle.std.proofs.Common.{◌≡◌, ◌≢◌, ℕ, List, Result, Ok, Err, IfSome, ◌⊎◌, inl, inr, refl, sym, ap, ◌∙◌, subst}
+use Rattle.std.proofs.Common.{◌≡◌, ◌≢◌, ℕ, List, Result, Ok, Err, IfSome, ◌⊎◌, inl, inr, sym, ◌∙◌, subst}
 use Rattle.bfm_base.specs.Account.{Account, Delivered}
 use Rattle.bfm_base.specs.declared.cause.Refused.{Refused}
 use Rattle.crossing_check.specs.Verdict.{IsVerdict}

@@ -1,6 +1,5 @@
 -- What follows from the outcome of a job over an input.
-use Rattle.std.proofs.Common.{◌≡◌, ◌≢◌, ◌≤◌, ℕ, Bool, true, false, cond, nat_lt, List, [], take, Option, Some, None, IfSome, Result, Ok, Err, IsErr, ◌⊎◌, inl, inr, refl, sym, ap, ◌∙◌, subst, arith}
-use Rattle.std.proofs.lemmas.Bool.Decides.{nat_tests}
+use Rattle.std.proofs.Common.{◌≡◌, ◌≢◌, ℕ, Bool, true, false, cond, nat_lt, List, take, Option, Some, None, IfSome, Result, Ok, Err, IsErr, ◌⊎◌, inl, inr, refl, sym, ap, ◌∙◌, subst}
 use Rattle.std.specs.Io.KnownBytes.{IsAtEnd}
 use Rattle.bfm_world.specs.Configuration.{IsValid}
 use Rattle.crossing_check.specs.declared.judgement.SetVerdict.{SetVerdict}
@@ -13,9 +12,9 @@ use Rattle.bfm_session.specs.Running.{is_too_far, last_mcs, last_reach, run_done
 use Rattle.bfm_session.specs.declared.order.RunOrder.{RunOrder}
 use Rattle.bfm_cli.specs.Ending.{status_of}
 use Rattle.bfm_cli.specs.Outcome.{JudgesFile, JudgesFor, JudgesInput, nothing, run_report, limit_of, accepted_outcome, build_outcome, file_outcome, job_outcome}
-use Rattle.bfm_base.specs.Account.{Account, Delivered}
+use Rattle.bfm_base.specs.Account.{Account}
 use Rattle.bfm_base.specs.Faults.{Rose}
-use Rattle.bfm_cli.specs.Promise.{Agrees, Holds, Reads, HasWorld, IsBegun, IsOfFile, DoesOver, HasValidWorlds, HasValidStates, NeedsNoInput, Scene, Tells, Uses, Writes, scene}
+use Rattle.bfm_cli.specs.Promise.{Holds, Reads, IsOfFile, DoesOver, HasValidWorlds, HasValidStates, NeedsNoInput, Scene, Tells, scene}
 use Rattle.bfm_cli.specs.Start.{need_of, room_of, start_text, world_of}
 use Rattle.bfm_cli.specs.declared.job.FileJob.{FileJob}
 use Rattle.bfm_cli.specs.declared.job.FileJob.TheVariants.{Run, Look}

@@ -1,18 +1,15 @@
 -- What is written of a valid world with one frame is read back as the same world.
-use Rattle.std.proofs.Common.{◌≡◌, ℕ, ◌^◌, ◌≤◌, true, List, [], ◌∷◌, ◌++◌, map, length, None, Ok, sym, ap, ◌∙◌, subst, append-nil, arith}
+use Rattle.std.proofs.Common.{◌≡◌, ℕ, ◌^◌, ◌≤◌, true, List, [], ◌∷◌, map, length, None, Ok, sym, ap, ◌∙◌, subst, append-nil, arith}
 use Rattle.std.specs.List.{AllByRecursion, flat_map}
 use Rattle.bfm_world.specs.Bonds.{are_bonded}
 use Rattle.bfm_world.specs.Configuration.{Configuration, IsValid, reach_of}
 use Rattle.bfm_lexer.specs.Lines.{finished_lines}
 use Rattle.bfm_writer.specs.Rows.{Row, rows_of, row_positions}
-use Rattle.bfm_writer.specs.Header.{header_text}
-use Rattle.bfm_writer.specs.Text.{group_text}
 use Rattle.bfm_writer.proofs.RowPositions.{rows_of-positions}
 use Rattle.bfm_commands.specs.Meaning.{nothing}
 use Rattle.bfm_commands.specs.History.{History, listed_bonds, with_pairs}
 use Rattle.bfm_commands.specs.Causes.{cause_of}
 use Rattle.bfm_commands.specs.Verdict.{newest_first, refused_at, first_wrong, first_wrong_of, bytes_in, verdict_of}
-use Rattle.bfm_commands.specs.declared.loaded.Loaded.{Loaded}
 use Rattle.bfm_session.specs.Written.{loaded_back, world_text}
 use Rattle.bfm_session.proofs.ReadBackLines.{text_of, finished_lines-rows, IsRow}
 use Rattle.bfm_session.proofs.ReadBackRows.{listed_pairs, time_row, frame_row, header_rows, frame_rows, world_rows, world_text-rows}

@@ -1,4 +1,3 @@
-use Rattle.std.proofs.Common.{subst}
 use Rattle.bfm_cli.proofs.StartLemmas.{DoesBuilt-cut, DoesBuilt-whole}
 use Rattle.bfm_cli.proofs.building.build.Goals as goal
 
