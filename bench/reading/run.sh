@@ -47,7 +47,7 @@ done
 refused() {
     python3 "$here/files.py" "$1" "$2" > "$work/file"
     start=$(date +%s%N)
-    "$BFM_CLI" check < "$work/file" > "$work/answer" && exit 1
+    "$BFM_CLI" check < "$work/file" 2> "$work/answer" && exit 1
     echo "$1 $2: $((($(date +%s%N) - start) / 1000000)) ms"
     [ "$(cat "$work/answer")" = "$3" ]
 }
