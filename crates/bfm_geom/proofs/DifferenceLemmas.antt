@@ -79,15 +79,22 @@ pub wrapped_along-near : (side : ℕ) (d : ℤ) → 0 < side → neg_ℤ (pos si
 wrapped_along-near side d h above below =
     IsWrappedAlong-unique true side d _ d (wrapped_along-is true side d h) record { turns = (pos 0, omega (arith, ints)); above = above; below = below }
 
+-- so has the difference of two coordinates, taken the other way
+pub nat_abs-wrapped-turned : (shape : Shape) (axis : ℕ) (p q : ℤ) → 0 < side_of shape axis
+    → nat_abs (wrapped_along (is_periodic shape axis) (side_of shape axis) (q -ℤ p)) ≡ nat_abs (wrapped_along (is_periodic shape axis) (side_of shape axis) (p -ℤ q))
+nat_abs-wrapped-turned shape axis p q h =
+    ap (λ d. nat_abs (wrapped_along (is_periodic shape axis) (side_of shape axis) d)) (omega (arith, ints))
+    ∙ nat_abs-wrapped_along-neg (is_periodic shape axis) (side_of shape axis) (p -ℤ q) h
+
 -- overlap does not ask which of the two monomers comes first
 pub overlaps-symmetric : (shape : Shape) (a b : P3) → HasSides shape → overlaps shape a b ≡ overlaps shape b a
 overlaps-symmetric shape a b box =
-    let at_most : (x y : ℕ) → x ≡ y → nat_le x 1 ≡ nat_le y 1 = λ x y e. ap (λ n. nat_le n 1) e in
-    let along : (axis : ℕ) (p q : ℤ) → 0 < side_of shape axis → nat_abs (wrapped_along (is_periodic shape axis) (side_of shape axis) (q -ℤ p)) ≡ nat_abs (wrapped_along (is_periodic shape axis) (side_of shape axis) (p -ℤ q)) =
-    λ axis p q h. ap (λ d. nat_abs (wrapped_along (is_periodic shape axis) (side_of shape axis) d)) (omega (arith, ints)) ∙ nat_abs-wrapped_along-neg (is_periodic shape axis) (side_of shape axis) (p -ℤ q) h in
-    ap (λ n. nat_le n 1 && nat_le (nat_abs (wrapped shape (minus b a)).y) 1 && nat_le (nat_abs (wrapped shape (minus b a)).z) 1) (along 0 a.x b.x (omega (arith, box.x)))
-    ∙ ap (λ n. nat_le (nat_abs (wrapped shape (minus a b)).x) 1 && nat_le n 1 && nat_le (nat_abs (wrapped shape (minus b a)).z) 1) (along 1 a.y b.y (omega (arith, box.y)))
-    ∙ ap (λ n. nat_le (nat_abs (wrapped shape (minus a b)).x) 1 && nat_le (nat_abs (wrapped shape (minus a b)).y) 1 && nat_le n 1) (along 2 a.z b.z (omega (arith, box.z)))
+    let near : ℕ → ℕ → ℕ → Bool = λ x y z. nat_le x 1 && nat_le y 1 && nat_le z 1 in
+    let to = wrapped shape (minus b a) in
+    let from = wrapped shape (minus a b) in
+    ap (λ x. near x (nat_abs to.y) (nat_abs to.z)) (nat_abs-wrapped-turned shape 0 a.x b.x (omega (arith, box.x)))
+    ∙ ap (λ y. near (nat_abs from.x) y (nat_abs to.z)) (nat_abs-wrapped-turned shape 1 a.y b.y (omega (arith, box.y)))
+    ∙ ap (λ z. near (nat_abs from.x) (nat_abs from.y) z) (nat_abs-wrapped-turned shape 2 a.z b.z (omega (arith, box.z)))
 
 -- the wrapped form meets what makes a wrapped difference the right one
 pub IsWrapped-wrapped : (shape : Shape) (d w : P3) → HasSides shape → w ≡ wrapped shape d → IsWrapped shape d w

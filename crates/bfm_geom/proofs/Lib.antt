@@ -1,3 +1,4 @@
+pub mod ContactLemmas
 pub mod DifferenceLemmas
 pub mod IntegerLemmas
 pub mod MeetingLemmas

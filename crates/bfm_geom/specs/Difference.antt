@@ -1,5 +1,5 @@
--- Differences of places in a box, and the excluded volume of a monomer (Carmesin and Kremer 1988).
-use Rattle.std.specs.Prelude.{◌≡◌, ℕ, ◌*◌, ◌≤◌, Bool, true, false, ◌&&◌, nat_le, ℤ, pos, neg_ℤ, ◌+ℤ◌, ◌-ℤ◌, ◌*ℤ◌, ◌<ℤ◌, ◌≤ℤ◌, int_le, nat_abs, slice_index, slice_index_or, MatchBool, if◌then◌else◌}
+-- Differences of places in a box, the excluded volume of a monomer (Carmesin and Kremer 1988), and contacts.
+use Rattle.std.specs.Prelude.{◌≡◌, ℕ, ◌+◌, ◌*◌, ◌≤◌, Bool, true, false, ◌&&◌, nat_le, ℤ, pos, neg_ℤ, ◌+ℤ◌, ◌-ℤ◌, ◌*ℤ◌, ◌<ℤ◌, ◌≤ℤ◌, int_le, nat_abs, slice_index, slice_index_or, MatchBool, if◌then◌else◌}
 use Rattle.std.specs.Int.{int_rem_euclid}
 use Rattle.bfm_base.specs.declared.limits.TheConstants.{LEAST_SIDE, GREATEST_SIDE, MOST_SITES}
 use Rattle.bfm_base.specs.declared.place.P3.{P3}
@@ -41,6 +41,10 @@ plus a b = record { x = a.x +ℤ b.x; y = a.y +ℤ b.y; z = a.z +ℤ b.z }
 abbrev pub minus : P3 → P3 → P3
 minus a b = record { x = a.x -ℤ b.x; y = a.y -ℤ b.y; z = a.z -ℤ b.z }
 
+-- the squared length of a vector
+abbrev pub square_of : P3 → ℕ
+square_of v = nat_abs v.x * nat_abs v.x + nat_abs v.y * nat_abs v.y + nat_abs v.z * nat_abs v.z
+
 -- A difference along an axis, wrapped. On a walled axis it is the plain one.
 abbrev pub wrapped_along : Bool → ℕ → ℤ → ℤ
 wrapped_along false side d = d
@@ -77,3 +81,11 @@ abbrev pub overlaps : Shape → P3 → P3 → Bool
 overlaps shape a b =
     let d = wrapped shape (minus b a) in
     nat_le (nat_abs d.x) 1 && nat_le (nat_abs d.y) 1 && nat_le (nat_abs d.z) 1
+
+-- whether two monomers at this squared distance are in contact: it is 4, 5 or 6
+abbrev pub is_contact_square : ℕ → Bool
+is_contact_square square = nat_le 4 square && nat_le square 6
+
+-- whether two monomers are in contact, by their wrapped difference
+abbrev pub are_in_contact : Shape → P3 → P3 → Bool
+are_in_contact shape a b = is_contact_square (square_of (wrapped shape (minus b a)))

@@ -1,6 +1,6 @@
-ghost use Rattle.std.specs.Prelude.{◌≡◌, ◌+◌, ◌^◌, ◌≤◌, true, nat_abs, nat_le};
+ghost use Rattle.std.specs.Prelude.{◌≡◌, ◌+◌, ◌*◌, ◌^◌, ◌≤◌, true, false, nat_abs, nat_le};
 ghost use Rattle.bfm_base.specs.Place.{extent_of};
-ghost use Rattle.bfm_geom.specs.Difference.{HasSides, IsSide, IsWithin, IsWrapped, minus, plus, wrapped, wrapped_along, overlaps};
+ghost use Rattle.bfm_geom.specs.Difference.{HasSides, IsSide, IsWithin, IsWrapped, are_in_contact, is_contact_square, minus, plus, square_of, wrapped, wrapped_along, overlaps};
 
 use bfm_base::limits::{DIFFERENCE_REACH, PLACE_REACH};
 use bfm_base::{P3, Shape};
@@ -108,4 +108,37 @@ fn is_near_along(periodic: bool, side: u16, d: i64) -> bool
 {
     let w = wrap_along(periodic, side, d);
     -1 <= w && w <= 1
+}
+
+/// Whether two monomers are in contact: the squared length of their wrapped difference is 4, 5 or 6,
+/// in lattice units squared. There are 54 such differences, and monomers that overlap have none of them.
+pub fn contact(shape: &Shape, a: P3, b: P3) -> bool
+    requires shape { HasSides shape.now }
+    requires first { IsWithin PLACE_REACH a }
+    requires second { IsWithin PLACE_REACH b }
+    ensures value { result ≡ are_in_contact shape.now a b }
+    ensures symmetric { result ≡ are_in_contact shape.now b a }
+    ensures apart { result ≡ true → overlaps shape.now a b ≡ false }
+{
+    is_contact(wrap(shape, plain_difference(a, b)))
+}
+
+// Whether the squared length is 4, 5 or 6. That of a longer difference might not fit.
+fn is_contact(d: P3) -> bool
+    ensures { result ≡ is_contact_square (square_of d) }
+{
+    if d.extent() > 2 {
+        return false;
+    }
+    let square = squared(d.x) + squared(d.y) + squared(d.z);
+    4 <= square && square <= 6
+}
+
+// The square of a short component.
+fn squared(d: i64) -> u64
+    requires { nat_abs d ≤ 2 }
+    ensures value { result ≡ nat_abs d * nat_abs d }
+    ensures few { result ≤ 4 }
+{
+    d.unsigned_abs() * d.unsigned_abs()
 }

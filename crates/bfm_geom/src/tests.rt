@@ -2,7 +2,7 @@ ghost use Rattle.std.specs.Prelude.{IsTrue, nat_abs, pos, ◌≤ℤ◌};
 ghost use Rattle.bfm_geom.specs.Difference.{IsWithin, minus};
 ghost use Rattle.bfm_geom.specs.Meeting.{IsUnit};
 
-use crate::{Weights, meets, overlap, wrap};
+use crate::{Weights, contact, meets, overlap, wrap};
 use bfm_base::{Dir, P3, Shape};
 use std::process::Abort;
 
@@ -70,6 +70,29 @@ fn monomers_overlap_through_periodic_boundaries_alone(rt: HostRuntime) {
         assert!(rt; is_within(FAR, a));
         assert!(rt; is_within(FAR, b));
         assert_eq!(rt; overlap(&SHAPE, a, b), expected);
+    }
+}
+
+#[test]
+fn monomers_are_in_contact_at_squared_distances_4_to_6(rt: HostRuntime) {
+    let table = [
+        ([0, 0, 0], [2, 0, 0], true),
+        ([0, 0, 0], [0, -2, 1], true),
+        ([0, 0, 0], [-1, 1, 2], true),
+        ([0, 0, 0], [1, 1, 1], false),
+        ([0, 0, 0], [2, 2, 0], false),
+        ([0, 0, 0], [3, 0, 0], false),
+        ([7, 0, 0], [1, 0, 0], true),
+        ([0, 8, 0], [1, 1, 1], true),
+        ([0, 0, 0], [0, 0, 6], false),
+        ([0, 0, FAR], [0, 0, -FAR], false),
+        ([FAR, 0, 0], [2 - FAR, 1, -1], true),
+    ];
+    for (a, b, expected) in table {
+        let (a, b) = (at(a), at(b));
+        assert!(rt; is_within(FAR, a));
+        assert!(rt; is_within(FAR, b));
+        assert_eq!(rt; contact(&SHAPE, a, b), expected);
     }
 }
 
