@@ -18,7 +18,7 @@ use Rattle.bond_set.specs.BondSet.{id_of}
 use Rattle.bond_set.specs.UsualSet.{usual_set, usual_vectors, near_vectors}
 use Rattle.bfm_world.specs.Bonds.{neighbours_of}
 use Rattle.bfm_world.specs.Chains.{LiesTwoOn}
-use Rattle.bfm_world.specs.Configuration.{Configuration, is_clear, keeps_bonds, may_bond}
+use Rattle.bfm_world.specs.Configuration.{Configuration, is_clear, keeps_bonds, may_bond, reach_of}
 use Rattle.bfm_world.specs.Draft.{Draft, with_positions, place_refusal}
 
 pub both : (a b : Bool) → a ≡ true → b ≡ true → (a && b) ≡ true
@@ -128,3 +128,11 @@ module _ (start now : Draft) (place : ℕ → P3) (k : ℕ) (e : now ≡ with_po
       ∙ (ap (λ (d : Draft). with_positions d (d.world.positions ++ p ∷ [])) e
       ∙ (ap (λ q. with_positions start (map place (range_with_len 0 k) ++ q ∷ [])) here
       ∙ ap (with_positions start) (sym (map-range_with_len_more place 0 k k (omega arith)))))
+
+-- places that are each no further than a bound reach no further
+pub reach_of-map-range_with_len : (place : ℕ → P3) (first n most : ℕ) → ((k : ℕ) → k < first + n → extent_of (place k) ≤ most) → reach_of (map place (range_with_len first n)) ≤ most
+reach_of-map-range_with_len place first zero most near = omega arith
+reach_of-map-range_with_len place first (suc n) most near =
+    let here : extent_of (place first) ≤ most = near first (omega arith) in
+    let rest : reach_of (map place (range_with_len (first + 1) n)) ≤ most = reach_of-map-range_with_len place (first + 1) n most (λ k l. near k (omega arith)) in
+    omega arith

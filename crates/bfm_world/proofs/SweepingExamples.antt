@@ -3,6 +3,7 @@ use Rattle.std.proofs.Common.{◌≡◌, ℤ, pos, negsuc, true, false, [], ◌�
 use Rattle.std.proofs.lemmas.Int.{ints}
 use Rattle.bfm_base.specs.declared.place.P3.{P3}
 use Rattle.bfm_base.specs.declared.place.Dir.TheVariants.{ZUp}
+use Rattle.contact_table.specs.Contacts.{no_contacts}
 use Rattle.bfm_world.specs.Configuration.{Configuration, is_legal}
 use Rattle.bfm_world.specs.Sweeping.{SweepsBond}
 
@@ -16,6 +17,7 @@ crossed = record {
   shape = record { sides = 8 ∷ 8 ∷ 8 ∷ []; periodic = true ∷ true ∷ true ∷ [] };
   set = (at (pos 2) (pos 2) (pos 0), 17) ∷ (at (negsuc 1) (negsuc 1) (pos 0), 18) ∷ (at (pos 2) (negsuc 1) (pos 0), 19) ∷ (at (negsuc 1) (pos 2) (pos 0), 20)
       ∷ (at (pos 2) (pos 2) (pos 1), 21) ∷ (at (negsuc 1) (negsuc 1) (negsuc 0), 22) ∷ [];
+  table = no_contacts;
   positions = at (pos 0) (pos 0) (pos 0) ∷ at (pos 2) (pos 2) (pos 0) ∷ at (pos 8) (pos 2) (pos 0) ∷ at (pos 2) (negsuc 7) (pos 0) ∷ [];
   bonds = (1 ∷ []) ∷ (0 ∷ []) ∷ (3 ∷ []) ∷ (2 ∷ []) ∷ [];
   labels = 0 ∷ 0 ∷ 0 ∷ 0 ∷ [];

@@ -17,6 +17,7 @@ use Rattle.bfm_geom.specs.Walls.{is_within_walls}
 use Rattle.bfm_world.specs.Configuration.{Configuration, AreMarked, IsSound, IsValid, is_clear, is_fixed, is_legal, moved, target_of, may_bond, keeps_bonds, position_at, reach_of}
 use Rattle.bfm_world.proofs.BondLemmas.{and_left, and_right}
 use Rattle.bfm_world.proofs.ReachLemmas.{reach_of-set}
+use Rattle.contact_table.specs.Contacts.{ContactTable, IsContactTable}
 use Rattle.bfm_world.specs.Draft.{begun, may_join}
 use Rattle.bfm_world.specs.Bonds.{AreBonds, neighbours_of, are_bonded, is_full, with_bond, without_bond}
 use Rattle.bfm_world.proofs.BondLemmas.{AreBonds-with_bond, AreBonds-none}
@@ -83,6 +84,7 @@ IsValid-moved w i d v l h =
       box = v.box;
       set = v.set;
       symmetric = v.symmetric;
+      table = v.table;
       some = omega (arith, length-set w.positions i (target_of w i d), v.some);
       few = omega (arith, length-set w.positions i (target_of w i d), v.few);
       room = omega arith;
@@ -112,6 +114,7 @@ IsSound-placed n w p s l h k kept = record {
   box = s.box;
   set = s.set;
   symmetric = s.symmetric;
+  table = s.table;
   some = s.some;
   few = s.few;
   room = omega (arith, length-append w.positions (p ∷ []));
@@ -134,6 +137,7 @@ IsSound-joined n w i j s ne l m new may room_i room_j = record {
   box = s.box;
   set = s.set;
   symmetric = s.symmetric;
+  table = s.table;
   some = s.some;
   few = s.few;
   room = s.room;
@@ -145,11 +149,13 @@ IsSound-joined n w i j s ne l m new may room_i room_j = record {
 }
 
 -- a world in which nothing is placed and nobody is bonded
-pub IsSound-begun : (shape : Shape) (set : List (P3 × ℕ)) (n : ℕ) → IsBox shape → IsBondSet set → IsSymmetric set → 1 ≤ n → n ≤ MOST_MONOMERS → IsSound n (begun shape set n).world
-IsSound-begun shape set n box bond_set symmetric some few = record {
+pub IsSound-begun : (shape : Shape) (set : List (P3 × ℕ)) (table : ContactTable) (n : ℕ) → IsBox shape → IsBondSet set → IsSymmetric set → IsContactTable table → 1 ≤ n → n ≤ MOST_MONOMERS
+    → IsSound n (begun shape set table n).world
+IsSound-begun shape set table n box bond_set symmetric contacts some few = record {
   box = box;
   set = bond_set;
   symmetric = symmetric;
+  table = contacts;
   some = some;
   few = few;
   room = omega arith;
@@ -172,6 +178,7 @@ IsSound-unplaced n w s = record {
   box = s.box;
   set = s.set;
   symmetric = s.symmetric;
+  table = s.table;
   some = s.some;
   few = s.few;
   room = omega arith;
@@ -191,6 +198,7 @@ IsSound-parted n w i j s ne l m there =
       box = s.box;
       set = s.set;
       symmetric = s.symmetric;
+      table = s.table;
       some = s.some;
       few = s.few;
       room = s.room;
@@ -207,6 +215,7 @@ IsSound-labelled n w i label s l = record {
   box = s.box;
   set = s.set;
   symmetric = s.symmetric;
+  table = s.table;
   some = s.some;
   few = s.few;
   room = s.room;
@@ -228,6 +237,7 @@ IsSound-valued n w i valence s l = record {
   box = s.box;
   set = s.set;
   symmetric = s.symmetric;
+  table = s.table;
   some = s.some;
   few = s.few;
   room = s.room;
@@ -250,6 +260,7 @@ IsSound-fixed n w i s = record {
   box = s.box;
   set = s.set;
   symmetric = s.symmetric;
+  table = s.table;
   some = s.some;
   few = s.few;
   room = s.room;

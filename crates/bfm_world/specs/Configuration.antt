@@ -11,14 +11,17 @@ use Rattle.bfm_base.specs.Place.{extent_of}
 use Rattle.bfm_geom.specs.Difference.{IsBox, plus, minus, wrapped, overlaps}
 use Rattle.bfm_geom.specs.Walls.{is_within_walls}
 use Rattle.bond_set.specs.BondSet.{IsBondSet, IsSymmetric, id_of}
+use Rattle.contact_table.specs.Contacts.{ContactTable, IsContactTable}
 use Rattle.bfm_world.specs.Bonds.{AreBonds, neighbours_of, are_bonded}
 use Rattle.bfm_world.specs.declared.parts.Parts.{Parts}
 
--- the box, the set of bond vectors with their identifiers, the position of each monomer, the bonds, and what is said of
--- each monomer: its label, how many bonds it may have by linking, and whether it is fixed
+-- the box, the set of bond vectors with their identifiers, the weights of contacts with the thresholds of acceptance, the
+-- position of each monomer, the bonds, and what is said of each monomer: its label, how many bonds it may have by
+-- linking, and whether it is fixed
 pub record Configuration : Type 0 where
   pub shape : Shape
   pub set : List (P3 × ℕ)
+  pub table : ContactTable
   pub positions : List P3
   pub bonds : List (List ℕ)
   pub labels : List ℕ
@@ -30,6 +33,7 @@ abbrev pub configuration_of : Parts → Configuration
 configuration_of parts = record {
   shape = parts.shape;
   set = parts.set;
+  table = parts.table;
   positions = parts.positions.items;
   bonds = parts.bonds;
   labels = parts.labels.items;
@@ -77,6 +81,7 @@ pub record IsSound (count : ℕ) (w : Configuration) : Type 0 where
   pub box : IsBox w.shape
   pub set : IsBondSet w.set
   pub symmetric : IsSymmetric w.set
+  pub table : IsContactTable w.table
   pub some : 1 ≤ count
   pub few : count ≤ MOST_MONOMERS
   pub room : length w.positions ≤ count
@@ -99,9 +104,12 @@ reach_of (p ∷ ps) = max (extent_of p) (reach_of ps)
 abbrev pub class_of : ℕ → ℕ
 class_of label = if nat_le label GREATEST_CLASS then label else 0
 
--- the label and the valence of monomer i
+-- the label of monomer i, its class, and its valence
 abbrev pub label_of : Configuration → ℕ → ℕ
 label_of w i = slice_index_or w.labels i 0
+
+abbrev pub class_at : Configuration → ℕ → ℕ
+class_at w i = class_of (label_of w i)
 
 abbrev pub valence_of : Configuration → ℕ → ℕ
 valence_of w i = slice_index_or w.valences i 0

@@ -4,6 +4,7 @@ use Rattle.bfm_base.specs.declared.place.P3.{P3}
 use Rattle.bfm_base.specs.declared.place.Shape.{Shape}
 use Rattle.bfm_base.specs.declared.cause.Cause.{Cause}
 use Rattle.bfm_base.specs.declared.cause.Cause.TheVariants.{Outside, Overlap, BadMonomer, BadBond, TooManyBonds, BondUnknown}
+use Rattle.contact_table.specs.Contacts.{ContactTable}
 use Rattle.bfm_world.specs.Bonds.{neighbours_of, are_bonded, is_full, Joins, Separates}
 use Rattle.bfm_geom.specs.Walls.{is_within_walls}
 use Rattle.packed_lattice.specs.Sites.{Sites}
@@ -16,8 +17,8 @@ pub record Draft : Type 0 where
   pub count : ℕ
 
 -- a world of n monomers of which none has a position, none is bonded or fixed and nothing is said
-abbrev pub begun : Shape → List (P3 × ℕ) → ℕ → Draft
-begun shape set n = record { world = record { shape = shape; set = set; positions = []; bonds = replicate n []; labels = replicate n 0; valences = replicate n 0; fixed = replicate n false }; count = n }
+abbrev pub begun : Shape → List (P3 × ℕ) → ContactTable → ℕ → Draft
+begun shape set table n = record { world = record { shape = shape; set = set; table = table; positions = []; bonds = replicate n []; labels = replicate n 0; valences = replicate n 0; fixed = replicate n false }; count = n }
 
 -- a draft with these positions
 abbrev pub with_positions : Draft → List P3 → Draft

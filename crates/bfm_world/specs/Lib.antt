@@ -1,3 +1,4 @@
+pub mod Acceptance
 pub mod Bonds
 pub mod Chains
 pub mod Configuration

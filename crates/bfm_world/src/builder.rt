@@ -17,6 +17,7 @@ use crate::world::World;
 use bfm_base::limits::{MOST_BONDS, MOST_MONOMERS, WORLD_REACH};
 use bfm_base::{Cause, P3, Shape};
 use bond_set::BondSet;
+use contact_table::Table;
 use packed_lattice::Lattice;
 use std::alloc::{AllocError, Global};
 use std::marker::Model;
@@ -49,11 +50,13 @@ impl Model for WorldBuilder {
 }
 
 impl WorldBuilder {
-    /// Begins a world of `n` monomers, 1 to 2^18, in the box, whose bonds have vectors of the set.
+    /// Begins a world of `n` monomers, 1 to 2^18, in the box, whose bonds have vectors of the set and
+    /// whose contacts weigh what the table says.
     pub fn new(
         alloc: Global,
         shape: Shape,
         set: BondSet,
+        table: Table,
         n: u32,
     ) -> Result<WorldBuilder, AllocError>
         requires shape { IsBox shape }
@@ -61,12 +64,13 @@ impl WorldBuilder {
         requires finished { IsSymmetric set }
         requires some { 1 ≤ n }
         requires few { n ≤ MOST_MONOMERS }
-        ensures { IfOk result (λ builder. builder ≡ begun shape set n) }
+        ensures { IfOk result (λ builder. builder ≡ begun shape set table n) }
     {
         Ok(WorldBuilder {
             parts: Parts {
                 shape,
                 set,
+                table,
                 positions: Vec::with_capacity(alloc, n as usize)?,
                 bonds: Bonds::new(alloc, n)?,
                 labels: vec![in alloc; 0; n as usize]?,

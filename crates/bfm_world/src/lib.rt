@@ -1,9 +1,9 @@
 //! Valid worlds of polymers: built monomer by monomer and bond by bond, changed by legal local
 //! moves alone, and moved by whatever keeps the contract of an engine.
-//! It stands on `bfm_geom`, `bond_set`, `packed_lattice` and `arrayvec`. It promises that every `World` is valid in
+//! It stands on `bfm_geom`, `bond_set`, `contact_table`, `packed_lattice` and `arrayvec`. It promises that every `World` is valid in
 //! every state (no monomer beyond a wall, no two overlapping, each bond with a vector of the set),
 //! that a builder refuses exactly what would break that, and, by the trait `Engine`, that an attempt
-//! makes its move exactly where it is legal.
+//! makes its move exactly where it is legal and its word is below the threshold of what it does to the contacts.
 #![tactic(auto)]
 
 mod bonds;

@@ -1,12 +1,14 @@
 use crate::bonds::Bonds;
 use bfm_base::{P3, Shape};
 use bond_set::BondSet;
+use contact_table::Table;
 
 /// What a world is made of, be it whole or still being built.
 #[derive(Drop)]
 pub(crate) struct Parts {
     pub shape: Shape,
     pub set: BondSet,
+    pub table: Table,
     pub positions: Vec<P3>,
     pub bonds: Bonds,
     pub labels: Vec<u32>,

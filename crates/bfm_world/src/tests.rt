@@ -4,6 +4,7 @@ use crate::WorldBuilder;
 use bfm_base::limits::MOST_MONOMERS;
 use bfm_base::{Cause, Dir, P3, Shape};
 use bond_set::BondSet;
+use contact_table::Table;
 use std::alloc::{AllocError, Global};
 use std::process::Abort;
 use std::test::Fail;
@@ -27,14 +28,14 @@ fn begun(alloc: Global, n: u32) -> Result<WorldBuilder, AllocError>
     ensures empty { IfOk result (λ builder. builder.world.positions ≡ []) }
 {
     let set = BondSet::usual(alloc)?;
-    WorldBuilder::new(alloc, BOX, set, n)
+    WorldBuilder::new(alloc, BOX, set, Table::new(), n)
 }
 
 #[test]
 fn places_are_refused_beyond_walls_and_where_monomers_overlap(rt: HostRuntime) -> Result<(), Fail> {
     let set = BondSet::new(rt.alloc());
     assert!(rt; set.finish().is_ok());
-    let mut builder = WorldBuilder::new(rt.alloc(), BOX, set, 3)?;
+    let mut builder = WorldBuilder::new(rt.alloc(), BOX, set, Table::new(), 3)?;
     assert!(rt; builder.place(P3 { x: 0, y: 3, z: 0 }).is_ok());
     // Through the boundary: 7 and 0 differ by 1 around a side of 8.
     let overlap = builder.place(P3 { x: 7, y: 4, z: -16 });

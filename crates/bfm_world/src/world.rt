@@ -5,7 +5,7 @@ ghost use Rattle.bfm_base.specs.Place.{extent_of};
 ghost use Rattle.bfm_geom.specs.Difference.{IsBox, plus};
 ghost use Rattle.bond_set.specs.Crossing.{IsFree};
 ghost use Rattle.bfm_world.specs.Bonds.{neighbours_of, are_bonded};
-ghost use Rattle.bfm_world.specs.Configuration.{configuration_of, IsValid, position_of, target_of, label_of, class_of, valence_of, is_fixed, is_legal, keeps_bonds, moved, reach_of};
+ghost use Rattle.bfm_world.specs.Configuration.{configuration_of, IsValid, position_of, target_of, label_of, class_at, valence_of, is_fixed, is_legal, keeps_bonds, moved, reach_of};
 ghost use Rattle.bfm_world.specs.Sweeping.{CrossesNone};
 
 use crate::parts::Parts;
@@ -14,6 +14,7 @@ use bfm_base::limits::{GREATEST_CLASS, GREATEST_LABEL, GREATEST_VALENCE, MOST_BO
 use bfm_base::{Dir, P3, Shape};
 use bfm_geom::shifted;
 use bond_set::BondSet;
+use contact_table::Table;
 use std::marker::Model;
 
 /// A valid world: each monomer is within the walls, no two overlap, and each bond has a vector of
@@ -67,6 +68,13 @@ impl World {
         ensures { result.now ≡ self.now.set }
     {
         &self.parts.set
+    }
+
+    /// The weights of contacts, and the thresholds of acceptance.
+    pub fn table(&self) -> &Table
+        ensures { result.now ≡ self.now.table }
+    {
+        &self.parts.table
     }
 
     /// The number of monomers, 1 to 2^18. Whatever a world holds is valid.
@@ -143,7 +151,7 @@ impl World {
     /// The class of a monomer: its label where that is 1 to 15, else 0.
     pub fn class(&self, i: u32) -> u8
         requires { i < length self.now.positions }
-        ensures class { result ≡ class_of (label_of self.now i) }
+        ensures class { result ≡ class_at self.now i }
         ensures limit { result ≤ GREATEST_CLASS }
     {
         let label = self.label(i);

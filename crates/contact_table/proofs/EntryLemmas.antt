@@ -121,7 +121,7 @@ IsContactTable-with_entries (e ∷ es) start table s t h =
     let limit : unsigned_abs e.1 ≤ GREATEST_WEIGHT = subst (λ w. unsigned_abs w ≤ GREATEST_WEIGHT) (sym h.0.2) small in
     IsContactTable-with_entries es (with_weight e.0.0 e.0.1 e.1 start) table (IsContactTable-with_weight e.0.0 e.0.1 e.1 start h.0.0 h.0.1 limit s) t h.1
 
-thresholds-with_entries : (entries : List ((ℕ × ℕ) × ℤ)) (start : ContactTable) → (with_entries entries start).thresholds ≡ start.thresholds
+pub thresholds-with_entries : (entries : List ((ℕ × ℕ) × ℤ)) (start : ContactTable) → (with_entries entries start).thresholds ≡ start.thresholds
 thresholds-with_entries [] start = refl
 thresholds-with_entries (e ∷ es) start = thresholds-with_entries es (with_weight e.0.0 e.0.1 e.1 start)
 
@@ -141,10 +141,19 @@ weights-with_entries table t =
     ]) in
     weights-same (with_entries (entries_of table) no_contacts) table (IsContactTable-with_entries (entries_of table) no_contacts table empty t tell) t each
 
-with_thresholds-all : (ts : List ℕ) (table : ContactTable) → with_thresholds ts table ≡ record { weights = table.weights; thresholds = table.thresholds ++ ts }
+pub with_thresholds-all : (ts : List ℕ) (table : ContactTable) → with_thresholds ts table ≡ record { weights = table.weights; thresholds = table.thresholds ++ ts }
 with_thresholds-all [] table = ap (with_list table.weights) (sym (append-nil table.thresholds))
 with_thresholds-all (t ∷ ts) table =
     with_thresholds-all ts (with_threshold t table) ∙ ap (with_list table.weights) (append_assoc table.thresholds (t ∷ []) ts)
+
+-- one entry more, and one threshold more
+pub with_entries-push : (entries : List ((ℕ × ℕ) × ℤ)) (e : (ℕ × ℕ) × ℤ) (start : ContactTable) → with_entries (entries ++ e ∷ []) start ≡ with_weight e.0.0 e.0.1 e.1 (with_entries entries start)
+with_entries-push [] e start = refl
+with_entries-push (d ∷ entries) e start = with_entries-push entries e (with_weight d.0.0 d.0.1 d.1 start)
+
+pub with_thresholds-push : (thresholds : List ℕ) (t : ℕ) (start : ContactTable) → with_thresholds (thresholds ++ t ∷ []) start ≡ with_threshold t (with_thresholds thresholds start)
+with_thresholds-push [] t start = refl
+with_thresholds-push (u ∷ thresholds) t start = with_thresholds-push thresholds t (with_threshold u start)
 
 -- a table is what its entries and thresholds make of the one that has none
 pub with_thresholds-with_entries : (table : ContactTable) → IsContactTable table → with_thresholds table.thresholds (with_entries (entries_of table) no_contacts) ≡ table

@@ -10,7 +10,7 @@ invariant_of-result c =
     let valences : c.in_ok-vec-2.field-0.items ≡ replicate c.args.n 0 = search rules in
     let fixed : c.in_ok-vec-3.field-0.items ≡ replicate c.args.n false = search rules in
     rw (empty, c.in_ok-new.ensures, labels, valences, fixed) (
-      IsSound-begun c.args.shape c.args.set c.args.n c.requires.shape c.requires.set c.requires.finished c.requires.some c.requires.few,
+      IsSound-begun c.args.shape c.args.set c.args.table c.args.n c.requires.shape c.requires.set c.requires.finished (search rules) c.requires.some c.requires.few,
       omega arith,
       search rules,
       record { shape = c.in_ok-new-2.ensures.shape; taken = Covers-empty c.in_ok-new-2.field-0 c.in_ok-new-2.ensures.free },
