@@ -1,4 +1,5 @@
-ghost use Rattle.std.specs.Prelude.{◌≡◌, ◌≤◌, length, IfOk};
+ghost use Rattle.std.specs.Prelude.{◌≡◌, ◌≤◌, length, unsigned_abs, IfOk};
+ghost use Rattle.bfm_base.specs.declared.limits.TheConstants.{GREATEST_LABEL, GREATEST_THRESHOLD, GREATEST_WEIGHT};
 ghost use Rattle.bond_set.specs.BondSet.{IsBondSet, IsSymmetric};
 ghost use Rattle.bfm_world.specs.Configuration.{reach_of};
 
@@ -6,6 +7,7 @@ use crate::PlainEngine;
 use bfm_base::{Dir, P3, Shape};
 use bfm_world::{Engine, WorldBuilder};
 use bond_set::BondSet;
+use contact_table::Table;
 use std::alloc::{AllocError, Global};
 use std::process::Abort;
 use std::test::Fail;
@@ -17,7 +19,7 @@ fn legal_steps_are_made_and_others_are_not(rt: HostRuntime) -> Result<(), Fail> 
         periodic: [true, true, false],
     };
     let set = BondSet::usual(rt.alloc())?;
-    let mut builder = WorldBuilder::new(rt.alloc(), shape, set, 2)?;
+    let mut builder = WorldBuilder::new(rt.alloc(), shape, set, Table::new(), 2)?;
     assert!(rt; builder.place(P3 { x: 0, y: 0, z: 0 }).is_ok());
     assert!(rt; builder.place(P3 { x: 0, y: 6, z: 0 }).is_ok());
     let mut engine = PlainEngine::new(builder.finish());
@@ -38,7 +40,7 @@ fn a_fixed_monomer_never_moves(rt: HostRuntime) -> Result<(), Fail> {
         periodic: [true, true, true],
     };
     let set = BondSet::usual(rt.alloc())?;
-    let mut builder = WorldBuilder::new(rt.alloc(), shape, set, 2)?;
+    let mut builder = WorldBuilder::new(rt.alloc(), shape, set, Table::new(), 2)?;
     builder.fix(1);
     assert!(rt; builder.place(P3 { x: 0, y: 0, z: 0 }).is_ok());
     assert!(rt; builder.place(P3 { x: 4, y: 4, z: 4 }).is_ok());
@@ -62,7 +64,7 @@ fn paired(rt: &impl Abort, alloc: Global, set: BondSet) -> Result<PlainEngine, A
         sides: [8, 8, 8],
         periodic: [true, true, true],
     };
-    let mut builder = WorldBuilder::new(alloc, shape, set, 2)?;
+    let mut builder = WorldBuilder::new(alloc, shape, set, Table::new(), 2)?;
     assert!(rt; builder.join(0, 1) == Ok(true));
     assert!(rt; builder.place(P3 { x: 0, y: 0, z: 0 }).is_ok());
     assert!(rt; builder.place(P3 { x: 2, y: 0, z: 0 }).is_ok());
@@ -122,7 +124,7 @@ fn a_step_takes_a_bond_through_another_where_the_set_allows_it(
         sides: [16, 16, 16],
         periodic: [true, true, true],
     };
-    let mut builder = WorldBuilder::new(rt.alloc(), shape, set, 4)?;
+    let mut builder = WorldBuilder::new(rt.alloc(), shape, set, Table::new(), 4)?;
     assert!(rt; builder.join(0, 1) == Ok(true));
     assert!(rt; builder.join(2, 3) == Ok(true));
     assert!(rt; builder.place(P3 { x: 0, y: 0, z: 0 }).is_ok());
@@ -138,5 +140,114 @@ fn a_step_takes_a_bond_through_another_where_the_set_allows_it(
     let mut engine = PlainEngine::new(world);
     assert!(rt; engine.attempt(1, Dir::ZUp, 0));
     assert_eq!(rt; engine.world().position(1), P3 { x: 2, y: 2, z: 1 });
+    Ok(())
+}
+
+// A table in which a contact of classes 1 and 1 and one of 1 and 2 have a weight each, with the
+// threshold of 1 alone.
+fn weighing(same: i32, mixed: i32, threshold: u64) -> Table
+    requires same { unsigned_abs same ≤ GREATEST_WEIGHT }
+    requires mixed { unsigned_abs mixed ≤ GREATEST_WEIGHT }
+    requires threshold { threshold ≤ GREATEST_THRESHOLD }
+{
+    let mut table = Table::new();
+    table.set_weight(1, 1, same);
+    table.set_weight(1, 2, mixed);
+    table.push_threshold(threshold);
+    table
+}
+
+// An engine over two monomers with these labels at (0, 3, 0) and (0, 0, 0). They are not in contact,
+// and a step YUp of the second, to (0, 1, 0), brings them to the squared distance 4.
+fn labelled(
+    rt: &impl Abort,
+    alloc: Global,
+    table: Table,
+    first: u32,
+    second: u32,
+) -> Result<PlainEngine, AllocError>
+    requires first { first ≤ GREATEST_LABEL }
+    requires second { second ≤ GREATEST_LABEL }
+    ensures count { IfOk result (λ engine. length engine.positions ≡ 2) }
+    ensures reach { IfOk result (λ engine. reach_of engine.positions ≤ 3) }
+{
+    let shape = Shape {
+        sides: [8, 8, 8],
+        periodic: [true, true, true],
+    };
+    let set = BondSet::usual(alloc)?;
+    let mut builder = WorldBuilder::new(alloc, shape, set, table, 2)?;
+    builder.label(0, first);
+    builder.label(1, second);
+    assert!(rt; builder.place(P3 { x: 0, y: 3, z: 0 }).is_ok());
+    assert!(rt; builder.place(P3 { x: 0, y: 0, z: 0 }).is_ok());
+    assert!(rt; builder.placed() == builder.count() as usize);
+    let world = builder.finish();
+    assert_eq!(rt; world.len(), 2);
+    assert_eq!(rt; world.reach(), 3);
+    Ok(PlainEngine::new(world))
+}
+
+#[test]
+fn a_step_into_a_contact_is_made_where_the_word_is_below_the_threshold(
+    rt: HostRuntime,
+) -> Result<(), Fail> {
+    let mut engine = labelled(&rt, rt.alloc(), weighing(1, 0, 1_000), 1, 1)?;
+    assert!(rt; !engine.attempt(1, Dir::YUp, 1_000));
+    assert_eq!(rt; engine.world().position(1), P3 { x: 0, y: 0, z: 0 });
+    assert!(rt; engine.attempt(1, Dir::YUp, 999));
+    assert_eq!(rt; engine.world().position(1), P3 { x: 0, y: 1, z: 0 });
+    Ok(())
+}
+
+// At (0, 1, 0), (0, 1, 1) and (1, 1, 1) the squared distance is 4, 5 and 6, so no step changes the sum;
+// at (2, 1, 1) it is 9, and the sum falls.
+#[test]
+fn a_step_that_does_not_raise_the_sum_is_always_accepted(rt: HostRuntime) -> Result<(), Fail> {
+    let mut engine = labelled(&rt, rt.alloc(), weighing(1, 0, 1), 1, 1)?;
+    assert!(rt; engine.attempt(1, Dir::YUp, 0));
+    for dir in [Dir::ZUp, Dir::XUp, Dir::XUp] {
+        assert_eq!(rt; engine.world().len(), 2);
+        assert_eq!(rt; engine.world().reach(), 3);
+        assert!(rt; engine.attempt(1, dir, u32::MAX));
+    }
+    assert!(rt; engine.world().len() == 2);
+    assert_eq!(rt; engine.world().position(1), P3 { x: 2, y: 1, z: 1 });
+    Ok(())
+}
+
+#[test]
+fn a_change_above_the_last_threshold_is_never_accepted(rt: HostRuntime) -> Result<(), Fail> {
+    let mut once = labelled(&rt, rt.alloc(), weighing(1, 0, 4_294_967_296), 1, 1)?;
+    assert!(rt; once.attempt(1, Dir::YUp, u32::MAX));
+    let mut twice = labelled(&rt, rt.alloc(), weighing(2, 0, 4_294_967_296), 1, 1)?;
+    assert!(rt; !twice.attempt(1, Dir::YUp, 0));
+    Ok(())
+}
+
+#[test]
+fn a_contact_that_attracts_is_gained_always_and_left_by_the_threshold(
+    rt: HostRuntime,
+) -> Result<(), Fail> {
+    let mut engine = labelled(&rt, rt.alloc(), weighing(-1, 0, 1_000), 1, 1)?;
+    assert!(rt; engine.attempt(1, Dir::YUp, u32::MAX));
+    assert_eq!(rt; engine.world().len(), 2);
+    assert_eq!(rt; engine.world().reach(), 3);
+    assert!(rt; !engine.attempt(1, Dir::YDown, 1_000));
+    assert!(rt; engine.attempt(1, Dir::YDown, 999));
+    Ok(())
+}
+
+// Only the pair of classes 1 and 2 weighs anything here.
+#[test]
+fn a_contact_weighs_what_its_two_classes_say(rt: HostRuntime) -> Result<(), Fail> {
+    for (first, second) in [(1, 2), (2, 1)] {
+        let mut mixed = labelled(&rt, rt.alloc(), weighing(0, 1, 0), first, second)?;
+        assert!(rt; !mixed.attempt(1, Dir::YUp, 0));
+    }
+    for (first, second) in [(1, 1), (2, 2), (0, 2), (1, 0), (1, 16)] {
+        let mut free = labelled(&rt, rt.alloc(), weighing(0, 1, 0), first, second)?;
+        assert!(rt; free.attempt(1, Dir::YUp, u32::MAX));
+    }
     Ok(())
 }
