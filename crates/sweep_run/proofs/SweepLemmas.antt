@@ -1,10 +1,11 @@
 -- Attempts, one after another.
-use Rattle.std.proofs.Common.{◌≡◌, ℕ, nat_lt, zero, suc, ◌+◌, ◌*◌, ◌<◌, ◌≤◌, Bool, true, false, cond, length, refl, ap, sym, ◌∙◌, subst, arith, add-zero, zero-add, suc-add, add-one, ◌^◌, ◌-◌}
+use Rattle.std.proofs.Common.{◌≡◌, ℕ, nat_lt, zero, suc, ◌+◌, ◌*◌, ◌<◌, ◌≤◌, Bool, true, false, cond, length, refl, ap, sym, ◌∙◌, ◌&&◌, subst, arith, add-zero, zero-add, suc-add, add-one, ◌^◌, ◌-◌}
 use Rattle.std.proofs.Math.Nat.{mul-le-mul_right}
 use Rattle.std.proofs.Math.Seq.{set_out}
 use Rattle.std.proofs.lemmas.Bool.Decides.{nat_tests}
 use Rattle.std.proofs.lemmas.List.{length-set}
 use Rattle.bfm_base.specs.declared.place.Dir.{Dir}
+use Rattle.bfm_world.specs.Acceptance.{is_accepted, makes_move}
 use Rattle.bfm_world.specs.Configuration.{Configuration, IsValid, is_legal, moved, reach_of, target_of}
 use Rattle.bond_set.specs.Crossing.{IsFree}
 use Rattle.bfm_world.proofs.SweepingLemmas.{CrossesNone-free}
@@ -12,17 +13,17 @@ use Rattle.bfm_world.proofs.ReachLemmas.{extent_of-target, reach_of-set}
 use Rattle.bfm_world.proofs.ValidLemmas.{IsValid-moved}
 use Rattle.rand_pcg.specs.Lcg.{Lcg}
 use Rattle.sweep_stream.specs.RandomWords.{generator_after, word_at}
-use Rattle.sweep_run.specs.Sweep.{Progress, attempted, after_attempts, swept, after_sweeps, state_at, monomer_of, direction_of, begun_with, NoMoveCrosses}
+use Rattle.sweep_run.specs.Sweep.{Progress, attempted, after_attempts, swept, after_sweeps, state_at, monomer_of, direction_of, acceptance_word, begun_with, NoMoveCrosses}
 
 -- one more attempt at the end
 pub after_attempts-suc : (n seed first count : ℕ) (run : Progress)
-    → after_attempts n seed first (suc count) run ≡ attempted (after_attempts n seed first count run) (monomer_of n seed (first + count)) (direction_of seed (first + count))
+    → after_attempts n seed first (suc count) run ≡ attempted (after_attempts n seed first count run) (monomer_of n seed (first + count)) (direction_of seed (first + count)) (acceptance_word seed (first + count))
 after_attempts-suc n seed first zero run = rw (add-zero first) refl
 after_attempts-suc n seed first (suc count) run =
-    let next = attempted run (monomer_of n seed first) (direction_of seed first) in
+    let next = attempted run (monomer_of n seed first) (direction_of seed first) (acceptance_word seed first) in
     let same : first + 1 + count ≡ first + suc count = omega arith in
     after_attempts-suc n seed (first + 1) count next
-    ∙ ap (λ k. attempted (after_attempts n seed (first + 1) count next) (monomer_of n seed k) (direction_of seed k)) same
+    ∙ ap (λ k. attempted (after_attempts n seed (first + 1) count next) (monomer_of n seed k) (direction_of seed k) (acceptance_word seed k)) same
 
 -- one more sweep at the end
 pub after_sweeps-suc : (seed t count : ℕ) (run : Progress) → after_sweeps seed t (suc count) run ≡ swept seed (t + count) (after_sweeps seed t count run)
@@ -43,53 +44,65 @@ after_sweeps-add seed t (suc a) b run =
 abbrev pub progress : Configuration → ℕ → Progress
 progress w accepted = record { world = w; accepted = accepted }
 
+-- a move that is made is legal
+pub is_legal_where_made : (w : Configuration) (i : ℕ) (d : Dir) (word : ℕ) → makes_move w i d word ≡ true → is_legal w i d ≡ true
+is_legal_where_made w i d word made = and-left (is_legal w i d) (is_accepted w i d word) made
+  where
+    and-left : (p q : Bool) → (p && q) ≡ true → p ≡ true
+    and-left true q h = refl
+    and-left false q h = h
+
 -- what an attempt of an engine does is what an attempt is
-attempted-by : (legal : Bool) (w m v : Configuration) (accepted : ℕ) → v ≡ cond legal m w
-    → progress v (accepted + cond legal 1 0) ≡ cond legal (progress m (accepted + 1)) (progress w accepted)
+attempted-by : (made : Bool) (w m v : Configuration) (accepted : ℕ) → v ≡ cond made m w
+    → progress v (accepted + cond made 1 0) ≡ cond made (progress m (accepted + 1)) (progress w accepted)
 attempted-by true w m v accepted e = ap (λ u. progress u (accepted + 1)) e
 attempted-by false w m v accepted e = ap (λ u. progress u (accepted + 0)) e ∙ ap (progress w) (add-zero accepted)
 
-pub attempted-is : (w v : Configuration) (i : ℕ) (d : Dir) (made : Bool) (accepted : ℕ) → made ≡ is_legal w i d → v ≡ cond (is_legal w i d) (moved w i d) w
-    → progress v (accepted + cond made 1 0) ≡ attempted (progress w accepted) i d
-attempted-is w v i d made accepted e f =
-    ap (λ b. progress v (accepted + cond b 1 0)) e ∙ attempted-by (is_legal w i d) w (moved w i d) v accepted f
+pub attempted-is : (w v : Configuration) (i : ℕ) (d : Dir) (word : ℕ) (made : Bool) (accepted : ℕ)
+    → made ≡ makes_move w i d word → v ≡ cond (makes_move w i d word) (moved w i d) w
+    → progress v (accepted + cond made 1 0) ≡ attempted (progress w accepted) i d word
+attempted-is w v i d word made accepted e f =
+    ap (λ b. progress v (accepted + cond b 1 0)) e ∙ attempted-by (makes_move w i d word) w (moved w i d) v accepted f
 
 -- an attempt keeps the number of monomers, goes at most one further, and leaves a valid world valid
-length-attempted : (legal : Bool) (run : Progress) (i : ℕ) (d : Dir)
-    → length (cond legal (record { world = moved run.world i d; accepted = run.accepted + 1 }) run).world.positions ≡ length run.world.positions
+length-attempted : (made : Bool) (run : Progress) (i : ℕ) (d : Dir)
+    → length (cond made (record { world = moved run.world i d; accepted = run.accepted + 1 }) run).world.positions ≡ length run.world.positions
 length-attempted true run i d = length-set run.world.positions i (target_of run.world i d)
 length-attempted false run i d = refl
 
-pub length_of_attempted : (run : Progress) (i : ℕ) (d : Dir) → length (attempted run i d).world.positions ≡ length run.world.positions
-length_of_attempted run i d = length-attempted (is_legal run.world i d) run i d
+pub length_of_attempted : (run : Progress) (i : ℕ) (d : Dir) (word : ℕ) → length (attempted run i d word).world.positions ≡ length run.world.positions
+length_of_attempted run i d word = length-attempted (makes_move run.world i d word) run i d
 
-reach-attempted : (legal : Bool) (run : Progress) (i : ℕ) (d : Dir) → i < length run.world.positions
-    → reach_of (cond legal (record { world = moved run.world i d; accepted = run.accepted + 1 }) run).world.positions ≤ reach_of run.world.positions + 1
+reach-attempted : (made : Bool) (run : Progress) (i : ℕ) (d : Dir) → i < length run.world.positions
+    → reach_of (cond made (record { world = moved run.world i d; accepted = run.accepted + 1 }) run).world.positions ≤ reach_of run.world.positions + 1
 reach-attempted true run i d h = omega (arith, reach_of-set run.world.positions i (target_of run.world i d), extent_of-target run.world i d h)
 reach-attempted false run i d h = omega arith
 
-pub reach_of_attempted : (run : Progress) (i : ℕ) (d : Dir) → i < length run.world.positions → reach_of (attempted run i d).world.positions ≤ reach_of run.world.positions + 1
-reach_of_attempted run i d h = reach-attempted (is_legal run.world i d) run i d h
+pub reach_of_attempted : (run : Progress) (i : ℕ) (d : Dir) (word : ℕ) → i < length run.world.positions
+    → reach_of (attempted run i d word).world.positions ≤ reach_of run.world.positions + 1
+reach_of_attempted run i d word h = reach-attempted (makes_move run.world i d word) run i d h
 
-valid-attempted : (legal inside : Bool) (run : Progress) (i : ℕ) (d : Dir) → legal ≡ is_legal run.world i d → inside ≡ nat_lt i (length run.world.positions) → IsValid run.world
-    → IsValid (cond legal (record { world = moved run.world i d; accepted = run.accepted + 1 }) run).world
-valid-attempted false inside run i d e h v = v
-valid-attempted true true run i d e h v =
+valid-attempted : (made inside : Bool) (run : Progress) (i : ℕ) (d : Dir) (word : ℕ) → made ≡ makes_move run.world i d word
+    → inside ≡ nat_lt i (length run.world.positions) → IsValid run.world
+    → IsValid (cond made (record { world = moved run.world i d; accepted = run.accepted + 1 }) run).world
+valid-attempted false inside run i d word e h v = v
+valid-attempted true true run i d word e h v =
     let below : i < length run.world.positions = grind (arith, nat_tests) in
-    IsValid-moved run.world i d v below (sym e)
-valid-attempted true false run i d e h v =
+    IsValid-moved run.world i d v below (is_legal_where_made run.world i d word (sym e))
+valid-attempted true false run i d word e h v =
     let past : length run.world.positions ≤ i = grind (arith, nat_tests) in
     subst (λ ps. IsValid (record run.world { positions = ps })) (sym (set_out run.world.positions i (target_of run.world i d) past)) v
 
-IsValid-attempted : (run : Progress) (i : ℕ) (d : Dir) → IsValid run.world → IsValid (attempted run i d).world
-IsValid-attempted run i d v = valid-attempted (is_legal run.world i d) (nat_lt i (length run.world.positions)) run i d refl refl v
+IsValid-attempted : (run : Progress) (i : ℕ) (d : Dir) (word : ℕ) → IsValid run.world → IsValid (attempted run i d word).world
+IsValid-attempted run i d word v = valid-attempted (makes_move run.world i d word) (nat_lt i (length run.world.positions)) run i d word refl refl v
 
 IsValid-after_attempts : (n seed first count : ℕ) (run : Progress) → IsValid run.world → IsValid (after_attempts n seed first count run).world
 IsValid-after_attempts n seed first zero run v = v
 IsValid-after_attempts n seed first (suc count) run v =
     let i = monomer_of n seed first in
     let d = direction_of seed first in
-    IsValid-after_attempts n seed (first + 1) count (attempted run i d) (IsValid-attempted run i d v)
+    let word = acceptance_word seed first in
+    IsValid-after_attempts n seed (first + 1) count (attempted run i d word) (IsValid-attempted run i d word v)
 
 IsValid-after_sweeps : (seed t count : ℕ) (run : Progress) → IsValid run.world → IsValid (after_sweeps seed t count run).world
 IsValid-after_sweeps seed t zero run v = v
@@ -105,8 +118,8 @@ IsValid-state seed t count a run v =
     IsValid-after_attempts n seed (n * (t + count)) a begun (IsValid-after_sweeps seed t count run v)
 
 -- a move leaves the set of bond vectors as it is
-set-attempted : (legal : Bool) (run : Progress) (i : ℕ) (d : Dir)
-    → (cond legal (record { world = moved run.world i d; accepted = run.accepted + 1 }) run).world.set ≡ run.world.set
+set-attempted : (made : Bool) (run : Progress) (i : ℕ) (d : Dir)
+    → (cond made (record { world = moved run.world i d; accepted = run.accepted + 1 }) run).world.set ≡ run.world.set
 set-attempted true run i d = refl
 set-attempted false run i d = refl
 
@@ -115,7 +128,8 @@ set-after_attempts n seed first zero run = refl
 set-after_attempts n seed first (suc count) run =
     let i = monomer_of n seed first in
     let d = direction_of seed first in
-    set-after_attempts n seed (first + 1) count (attempted run i d) ∙ set-attempted (is_legal run.world i d) run i d
+    let word = acceptance_word seed first in
+    set-after_attempts n seed (first + 1) count (attempted run i d word) ∙ set-attempted (makes_move run.world i d word) run i d
 
 set-after_sweeps : (seed t count : ℕ) (run : Progress) → (after_sweeps seed t count run).world.set ≡ run.world.set
 set-after_sweeps seed t zero run = refl
@@ -132,12 +146,14 @@ set-state seed t count a run =
 
 -- no move of a run from a valid world crosses bonds where the set is free
 pub NoMoveCrosses-free : (seed t : ℕ) (world : Configuration) → IsValid world → IsFree world.set → NoMoveCrosses seed t world
-NoMoveCrosses-free seed t world v free count a legal =
+NoMoveCrosses-free seed t world v free count a made =
     let state = (state_at seed t count a (begun_with world)).world in
     let n = length world.positions in
     let k = n * (t + count) + a in
-    CrossesNone-free state (monomer_of n seed k) (direction_of seed k) (IsValid-state seed t count a (begun_with world) v)
-    (subst IsFree (sym (set-state seed t count a (begun_with world))) free) legal
+    let i = monomer_of n seed k in
+    let d = direction_of seed k in
+    CrossesNone-free state i d (IsValid-state seed t count a (begun_with world) v)
+    (subst IsFree (sym (set-state seed t count a (begun_with world))) free) (is_legal_where_made state i d (acceptance_word seed k) made)
 
 -- after k sweeps of a run this is known from an earlier sweep of it, and where none was made from the next one
 pub NoMoveCrosses-more : (seed first k accepted : ℕ) (start now : Configuration) → progress now accepted ≡ after_sweeps seed first k (progress start 0)
@@ -164,18 +180,19 @@ Stands-begin start seed n first words e l = record {
 }
 
 pub Stands-more : (start now next : Progress) (seed n first count : ℕ) (words more : Lcg) → Stands start now seed n first count words
-    → monomer_of n seed (first + count) < n → next ≡ attempted now (monomer_of n seed (first + count)) (direction_of seed (first + count))
+    → monomer_of n seed (first + count) < n → next ≡ attempted now (monomer_of n seed (first + count)) (direction_of seed (first + count)) (acceptance_word seed (first + count))
     → more ≡ generator_after seed (3 * (first + count + 1)) → Stands start next seed n first (count + 1) more
 Stands-more start now next seed n first count words more s below e f =
     let i = monomer_of n seed (first + count) in
     let d = direction_of seed (first + count) in
+    let word = acceptance_word seed (first + count) in
     let inside : i < length now.world.positions = omega (arith, s.monomers, below) in
-    let far : reach_of next.world.positions ≤ reach_of now.world.positions + 1 = subst (λ (r : Progress). reach_of r.world.positions ≤ reach_of now.world.positions + 1) (sym e) (reach_of_attempted now i d inside) in
+    let far : reach_of next.world.positions ≤ reach_of now.world.positions + 1 = subst (λ (r : Progress). reach_of r.world.positions ≤ reach_of now.world.positions + 1) (sym e) (reach_of_attempted now i d word inside) in
     let same : first + count + 1 ≡ first + (count + 1) = omega arith in
     record {
-      run = e ∙ (ap (λ r. attempted r i d) s.run ∙ (sym (after_attempts-suc n seed first count start) ∙ ap (λ k. after_attempts n seed first k start) (sym (add-one count))));
+      run = e ∙ (ap (λ r. attempted r i d word) s.run ∙ (sym (after_attempts-suc n seed first count start) ∙ ap (λ k. after_attempts n seed first k start) (sym (add-one count))));
       words = f ∙ ap (λ k. generator_after seed (3 * k)) same;
-      monomers = ap (λ (r : Progress). length r.world.positions) e ∙ (length_of_attempted now i d ∙ s.monomers);
+      monomers = ap (λ (r : Progress). length r.world.positions) e ∙ (length_of_attempted now i d word ∙ s.monomers);
       reach = omega (arith, far, s.reach);
     }
 

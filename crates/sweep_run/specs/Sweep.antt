@@ -4,33 +4,37 @@ use Rattle.std.specs.Prelude.{◌≡◌, ℕ, true, zero, suc, ◌+◌, ◌*◌,
 use Rattle.bfm_base.specs.declared.place.Dir.{Dir}
 use Rattle.bfm_base.specs.declared.place.Dir.TheVariants.{XUp}
 use Rattle.bfm_base.specs.Direction.{directions}
-use Rattle.bfm_world.specs.Configuration.{Configuration, is_legal, moved}
+use Rattle.bfm_world.specs.Acceptance.{makes_move}
+use Rattle.bfm_world.specs.Configuration.{Configuration, moved}
 use Rattle.bfm_world.specs.Sweeping.{CrossesNone}
 use Rattle.sweep_stream.specs.RandomWords.{word_at}
 
--- the monomer and the direction that attempt k takes: words 3k and 3k + 1, read as fractions of 2^32
+-- the monomer and the direction that attempt k takes, by words 3k and 3k + 1, read as fractions of 2^32, and the word
+-- 3k + 2 that accepts its step or not
 abbrev pub monomer_of : ℕ → ℕ → ℕ → ℕ
 monomer_of n seed k = word_at seed (3 * k) * n / 2 ^ 32
 
 abbrev pub direction_of : ℕ → ℕ → Dir
 direction_of seed k = slice_index_or directions (word_at seed (3 * k + 1) * 6 / 2 ^ 32) XUp
 
+abbrev pub acceptance_word : ℕ → ℕ → ℕ
+acceptance_word seed k = word_at seed (3 * k + 2)
+
 -- a world in a run, and how many moves have been made
 pub record Progress : Type 0 where
   pub world : Configuration
   pub accepted : ℕ
 
--- An attempt moves its monomer where the step is legal. (Without contacts each third word is below the
--- threshold.)
-abbrev pub attempted : Progress → ℕ → Dir → Progress
-attempted run i d =
-    if is_legal run.world i d then record { world = moved run.world i d; accepted = run.accepted + 1 } else run
+-- an attempt moves its monomer where the step is legal and the word accepts what it does to the contacts
+abbrev pub attempted : Progress → ℕ → Dir → ℕ → Progress
+attempted run i d word =
+    if makes_move run.world i d word then record { world = moved run.world i d; accepted = run.accepted + 1 } else run
 
 -- after `count` attempts from number `first` on, in a world of n monomers
 abbrev pub after_attempts : ℕ → ℕ → ℕ → ℕ → Progress → Progress
 after_attempts n seed first zero run = run
 after_attempts n seed first (suc count) run =
-    after_attempts n seed (first + 1) count (attempted run (monomer_of n seed first) (direction_of seed first))
+    after_attempts n seed (first + 1) count (attempted run (monomer_of n seed first) (direction_of seed first) (acceptance_word seed first))
 
 -- after sweep t
 abbrev pub swept : ℕ → ℕ → Progress → Progress
@@ -61,7 +65,9 @@ NextCrossesNone seed t count a world =
     let state = (state_at seed t count a (begun_with world)).world in
     let n = length world.positions in
     let k = n * (t + count) + a in
-    is_legal state (monomer_of n seed k) (direction_of seed k) ≡ true → CrossesNone state (monomer_of n seed k) (direction_of seed k)
+    let i = monomer_of n seed k in
+    let d = direction_of seed k in
+    makes_move state i d (acceptance_word seed k) ≡ true → CrossesNone state i d
 
 -- no move of a run from this world does, however long it goes on
 abbrev pub NoMoveCrosses : ℕ → ℕ → Configuration → Type 0

@@ -3,7 +3,7 @@ ghost use Rattle.bfm_base.specs.declared.limits.TheConstants.{GREATEST_MCS, RUN_
 ghost use Rattle.bond_set.specs.Crossing.{IsFree};
 ghost use Rattle.bfm_world.specs.Configuration.{reach_of};
 ghost use Rattle.sweep_stream.specs.RandomWords.{generator_after};
-ghost use Rattle.sweep_run.specs.Sweep.{Progress, swept, after_sweeps, monomer_of, direction_of, attempted, NextCrossesNone, NoMoveCrosses};
+ghost use Rattle.sweep_run.specs.Sweep.{Progress, swept, after_sweeps, monomer_of, direction_of, acceptance_word, attempted, NextCrossesNone, NoMoveCrosses};
 
 use bfm_base::Dir;
 use bfm_world::Engine;
@@ -38,14 +38,14 @@ fn attempt<E: Engine>(engine: &mut E, words: &mut SweepWords, monomers: u32) -> 
     requires reach { reach_of (E.configuration engine.old).positions < WORLD_REACH }
     ensures run { (seed k accepted : ℕ) → words.old ≡ generator_after seed (3 * k) →
         record { world = E.configuration engine.new; accepted = accepted + (if result then 1 else 0) }
-        ≡ attempted (record { world = E.configuration engine.old; accepted = accepted }) (monomer_of monomers seed k) (direction_of seed k) }
+        ≡ attempted (record { world = E.configuration engine.old; accepted = accepted }) (monomer_of monomers seed k) (direction_of seed k) (acceptance_word seed k) }
     ensures selects { (seed k : ℕ) → words.old ≡ generator_after seed (3 * k) → monomer_of monomers seed k < monomers }
     ensures words { (seed k : ℕ) → words.old ≡ generator_after seed (3 * k) → words.new ≡ generator_after seed (3 * (k + 1)) }
 {
     let monomer = (u64::from(words.next()) * u64::from(monomers)) >> 32;
     let direction = (u64::from(words.next()) * 6) >> 32;
-    let threshold_word = words.next();
-    engine.attempt(monomer as u32, Dir::of(direction as u32), threshold_word)
+    let acceptance_word = words.next();
+    engine.attempt(monomer as u32, Dir::of(direction as u32), acceptance_word)
 }
 
 /// Makes as many sweeps as `count`, of which `first` is the first. Answers how many moves were made.

@@ -1,7 +1,7 @@
 use Rattle.std.proofs.Common.{◌≡◌, ◌+◌, ◌*◌, length, arith, sym, ap, ◌∙◌, ℕ, ◌≤◌, Bool, true, false, cond, refl, subst}
 use mir.Val.{bool_byte}
 use Rattle.sweep_stream.specs.RandomWords.{generator_after}
-use Rattle.sweep_run.specs.Sweep.{attempted, monomer_of, direction_of}
+use Rattle.sweep_run.specs.Sweep.{attempted, monomer_of, direction_of, acceptance_word}
 use Rattle.bfm_world.specs.Configuration.{Configuration, IsValid}
 use Rattle.sweep_run.proofs.SweepLemmas.{Stands-more, progress, NoMoveCrosses-free}
 use Rattle.sweep_run.proofs.attempts.sweep.Goals as goal
@@ -33,7 +33,7 @@ loop-attempt-preserved g c =
     let stands = c.loop-attempt.invariant.0 in
     let at : c.loop-attempt.words ≡ generator_after seed (3 * k) = (stands 0).words in
     let one : c.from-accepted.result ≡ cond c.attempt.result 1 0 = c.from-accepted.ensures ∙ bool_byte-is c.attempt.result in
-    let made : (a : ℕ) → progress new (a + (c.loop-attempt.accepted + c.from-accepted.result)) ≡ attempted (progress old (a + c.loop-attempt.accepted)) (monomer_of n seed k) (direction_of seed k) =
+    let made : (a : ℕ) → progress new (a + (c.loop-attempt.accepted + c.from-accepted.result)) ≡ attempted (progress old (a + c.loop-attempt.accepted)) (monomer_of n seed k) (direction_of seed k) (acceptance_word seed k) =
     λ a. ap (progress new) (rw one (omega arith)) ∙ c.attempt.ensures.run seed k (a + c.loop-attempt.accepted) at in (
       λ a. Stands-more (progress (g.E.Engine.configuration c.args.engine.now) a) (progress old (a + c.loop-attempt.accepted)) _ seed n (n * c.args.t) c.loop-attempt._attempt c.loop-attempt.words c.attempt.new.words
           (stands a) (c.attempt.ensures.selects seed k at) (made a) (c.attempt.ensures.words seed k at),
