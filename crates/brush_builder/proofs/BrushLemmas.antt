@@ -1,31 +1,31 @@
 -- A brush whose monomers are all placed, and one whose chains are joined too.
-use Rattle.std.proofs.Common.{◌≡◌, ℕ, zero, suc, ◌+◌, ◌*◌, ◌<◌, ◌≤◌, true, List, length, map, ap, sym, ◌∙◌, subst, arith, pos, ◌↔◌}
-use Rattle.std.specs.List.{range_with_len}
+use Rattle.std.proofs.Common.{◌≡◌, ℕ, ◌+◌, ◌*◌, ◌<◌, ◌≤◌, true, List, length, ap, sym, ◌∙◌, subst, arith, pos, ◌↔◌}
 use Rattle.std.proofs.lemmas.List.FromFn.{length-map-range_with_len, get_or-map-range_with_len}
 use Rattle.bfm_base.specs.declared.limits.TheConstants.{GREATEST_SIDE}
 use Rattle.bfm_base.specs.declared.place.P3.{P3}
 use Rattle.bfm_base.specs.declared.place.Shape.{Shape}
-use Rattle.bfm_base.specs.Place.{extent_of}
 use Rattle.bfm_geom.specs.Difference.{IsBox, side_of}
 use Rattle.bond_set.specs.UsualSet.{usual_set}
+use Rattle.contact_table.specs.Contacts.{ContactTable, no_contacts}
 use Rattle.bfm_world.specs.Bonds.{are_bonded}
 use Rattle.bfm_world.specs.Chains.{goes_on, AreSuccessive, LiesTwoOn}
 use Rattle.bfm_world.specs.Configuration.{Configuration, may_bond, position_at, position_of, reach_of}
 use Rattle.bfm_world.specs.Draft.{Draft, begun, with_positions, with_bonds}
 use Rattle.bfm_world.proofs.ChainLemmas.{are_bonded-chain_bonds}
-use Rattle.bfm_world.proofs.StartLemmas.{may_bond-two}
+use Rattle.bfm_world.proofs.StartLemmas.{may_bond-two, reach_of-map-range_with_len}
 use Rattle.brush_builder.specs.Brush.{feet_in, room_above, place_of, brush_positions, brush_world}
 use Rattle.brush_builder.proofs.FootLemmas.{place_of-near, place_of-next}
 
 abbrev pub placed : Shape → ℕ → ℕ → ℕ → Draft
-placed shape spacing size n = with_positions (begun shape usual_set n) (brush_positions shape spacing size n)
+placed shape spacing size n = with_positions (begun shape usual_set no_contacts n) (brush_positions shape spacing size n)
 
-pub all_placed : (b now : Draft) (shape : Shape) (set : List (P3 × ℕ)) (spacing size n : ℕ) → set ≡ usual_set → b ≡ begun shape set n → now ≡ with_positions b (brush_positions b.world.shape spacing size b.count)
+pub all_placed : (b now : Draft) (shape : Shape) (set : List (P3 × ℕ)) (table : ContactTable) (spacing size n : ℕ) → set ≡ usual_set → table ≡ no_contacts → b ≡ begun shape set table n → now ≡ with_positions b (brush_positions b.world.shape spacing size b.count)
     → now ≡ placed shape spacing size n
-all_placed b now shape set spacing size n usual new all =
+all_placed b now shape set table spacing size n usual none new all =
     all
     ∙ (ap (λ (d : Draft). with_positions d (brush_positions d.world.shape spacing size d.count)) new
-    ∙ ap (λ s. with_positions (begun shape s n) (brush_positions shape spacing size n)) usual)
+    ∙ (ap (λ s. with_positions (begun shape s table n) (brush_positions shape spacing size n)) usual
+    ∙ ap (λ t. with_positions (begun shape usual_set t n) (brush_positions shape spacing size n)) none))
 
 pub length-placed : (d : Draft) (shape : Shape) (spacing size n : ℕ) → d ≡ placed shape spacing size n → length d.world.positions ≡ d.count
 length-placed d shape spacing size n e =
@@ -52,14 +52,6 @@ may_bond-placed d shape spacing size n k box two across deep some room e l same 
 pub bonded-brush : (w : Configuration) (shape : Shape) (spacing size i j : ℕ) → w ≡ brush_world shape spacing size → i < feet_in shape spacing * size → (are_bonded w.bonds i j ≡ true) ↔ AreSuccessive size i j
 bonded-brush w shape spacing size i j e l =
     subst (λ (c : Configuration). (are_bonded c.bonds i j ≡ true) ↔ AreSuccessive size i j) (sym e) (are_bonded-chain_bonds size (feet_in shape spacing * size) i j l)
-
--- places that are each no further than a bound reach no further
-reach_of-map-range_with_len : (place : ℕ → P3) (first n most : ℕ) → ((k : ℕ) → k < first + n → extent_of (place k) ≤ most) → reach_of (map place (range_with_len first n)) ≤ most
-reach_of-map-range_with_len place first zero most near = omega arith
-reach_of-map-range_with_len place first (suc n) most near =
-    let here : extent_of (place first) ≤ most = near first (omega arith) in
-    let rest : reach_of (map place (range_with_len (first + 1) n)) ≤ most = reach_of-map-range_with_len place (first + 1) n most (λ k l. near k (omega arith)) in
-    omega arith
 
 -- no coordinate of a brush is above the greatest side
 pub near-brush : (w : Configuration) (shape : Shape) (spacing size : ℕ) → IsBox shape → 2 ≤ spacing → spacing ≤ side_of shape 0 → spacing ≤ side_of shape 1 → 0 < size → size ≤ room_above shape

@@ -6,6 +6,7 @@ use Rattle.bfm_base.specs.declared.place.P3.{P3}
 use Rattle.bfm_base.specs.declared.place.Shape.{Shape}
 use Rattle.bfm_geom.specs.Difference.{side_of}
 use Rattle.bond_set.specs.UsualSet.{usual_set}
+use Rattle.contact_table.specs.Contacts.{no_contacts}
 use Rattle.bfm_world.specs.Configuration.{Configuration}
 use Rattle.bfm_world.specs.Draft.{begun, with_positions, with_bonds, with_fixed_list}
 use Rattle.bfm_world.specs.Chains.{chain_bonds}
@@ -46,5 +47,5 @@ feet_marks length n = map (is_foot length) (range_with_len 0 n)
 abbrev pub brush_world : Shape → ℕ → ℕ → Configuration
 brush_world shape spacing length =
     let n = feet_in shape spacing * length in
-    let chains = with_bonds (with_positions (begun shape usual_set n) (brush_positions shape spacing length n)) (chain_bonds length n) in
+    let chains = with_bonds (with_positions (begun shape usual_set no_contacts n) (brush_positions shape spacing length n)) (chain_bonds length n) in
     (with_fixed_list chains (feet_marks length n)).world

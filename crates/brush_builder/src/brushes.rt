@@ -1,6 +1,7 @@
-ghost use Rattle.std.specs.Prelude.{◌≡◌, ◌↔◌, ℕ, ◌*◌, ◌<◌, ◌≤◌, true, false, Err, IfOk, IfErr};
-ghost use Rattle.bfm_base.specs.declared.limits.TheConstants.{GREATEST_SIDE, MOST_MONOMERS};
+ghost use Rattle.std.specs.Prelude.{◌≡◌, ◌↔◌, ℕ, ◌*◌, ◌<◌, ◌≤◌, true, false, pos, Err, IfOk, IfErr};
+ghost use Rattle.bfm_base.specs.declared.limits.TheConstants.{GREATEST_CLASS, GREATEST_SIDE, MOST_MONOMERS};
 ghost use Rattle.bfm_geom.specs.Difference.{IsBox, side_of, is_periodic};
+ghost use Rattle.contact_table.specs.Contacts.{weight_of};
 ghost use Rattle.bfm_world.specs.Bonds.{are_bonded};
 ghost use Rattle.bfm_world.specs.Chains.{AreSuccessive};
 ghost use Rattle.bfm_world.specs.Configuration.{IsValid, is_fixed, reach_of};
@@ -11,12 +12,13 @@ use crate::feet::{feet_in, fix_feet, place_all};
 use bfm_base::Shape;
 use bfm_world::{BuildFault, World, WorldBuilder, join_chains};
 use bond_set::BondSet;
+use contact_table::Table;
 use std::alloc::Global;
 
 /// Builds a brush of upright chains of so many monomers each (at most 2^18 monomers in all), with
 /// the usual set, on feet that stand so far apart (2 to 512 lattice units) and are fixed. It is
 /// refused with `NoRoom` where a chain has more monomers than fit upright between the walls of the
-/// z axis. No coordinate is beyond 512 lattice units.
+/// z axis. Contacts weigh nothing. No coordinate is beyond 512 lattice units.
 pub fn brush(alloc: Global, shape: Shape, spacing: u32, length: u32) -> Result<World, BuildFault>
     requires box_limits { IsBox shape }
     requires walled { is_periodic shape 2 ≡ false }
@@ -30,6 +32,7 @@ pub fn brush(alloc: Global, shape: Shape, spacing: u32, length: u32) -> Result<W
     ensures world { IfOk result (λ world. world ≡ brush_world shape spacing length) }
     ensures valid { IfOk result IsValid }
     ensures near { IfOk result (λ world. reach_of world.positions ≤ GREATEST_SIDE) }
+    ensures contacts { IfOk result (λ world. (a b : ℕ) → a ≤ GREATEST_CLASS → b ≤ GREATEST_CLASS → weight_of world.table a b ≡ pos 0) }
 
     // Which monomers are fixed: the first of each chain.
     ensures feet { IfOk result (λ world. (i : ℕ) → i < feet_in shape spacing * length → is_fixed world i ≡ is_foot length i) }
@@ -48,7 +51,7 @@ pub fn brush(alloc: Global, shape: Shape, spacing: u32, length: u32) -> Result<W
     }
     let n = feet_in(&shape, spacing) * length;
     let set = BondSet::usual(alloc)?;
-    let mut builder = WorldBuilder::new(alloc, shape, set, n)?;
+    let mut builder = WorldBuilder::new(alloc, shape, set, Table::new(), n)?;
     place_all(&mut builder, spacing, length);
     join_chains(&mut builder, length);
     fix_feet(&mut builder, length);

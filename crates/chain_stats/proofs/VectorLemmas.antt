@@ -10,10 +10,10 @@ use Rattle.std.proofs.lemmas.List.{map-id}
 use Rattle.std.proofs.lemmas.List.FromFn.{sum_by-map-range_with_len_more}
 use Rattle.std.proofs.lemmas.Map.Steps.{length-le_from_distinct_below}
 use Rattle.bfm_base.specs.declared.place.P3.{P3}
-use Rattle.bfm_geom.specs.Difference.{IsWithin, plus, minus}
+use Rattle.bfm_geom.specs.Difference.{IsWithin, plus, minus, square_of}
 use Rattle.bfm_world.specs.Configuration.{Configuration, reach_of}
 use Rattle.bfm_world.proofs.ReachLemmas.{IsWithin-from_extent}
-use Rattle.chain_stats.specs.Fractions.{square_of, square_sum, AreMembers}
+use Rattle.chain_stats.specs.Fractions.{square_sum, AreMembers}
 
 nat_abs-plus : (a b : ℤ) → nat_abs (a +ℤ b) ≤ nat_abs a + nat_abs b
 nat_abs-plus a b = omega (arith, ints)

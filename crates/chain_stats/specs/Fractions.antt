@@ -1,15 +1,11 @@
 -- How large a chain of monomers is and how far it went, as exact fractions (textbook, multiplied out). Monomers are
 -- counted from 0, and coordinates are absolute: nothing is wrapped.
-use Rattle.std.specs.Prelude.{ℕ, ◌+◌, ◌-◌, ◌*◌, ◌<◌, ◌≤◌, min, max, nat_eq, pos, nat_abs, List, length, slice_index, All}
+use Rattle.std.specs.Prelude.{ℕ, ◌-◌, ◌*◌, ◌<◌, ◌≤◌, min, max, nat_eq, pos, List, length, slice_index, All}
 use Rattle.std.specs.List.{fold, sum_by, range_with_len, IsDistinct}
 use Rattle.bfm_base.specs.declared.place.P3.{P3}
-use Rattle.bfm_geom.specs.Difference.{plus, minus}
+use Rattle.bfm_geom.specs.Difference.{plus, minus, square_of}
 use Rattle.bfm_world.specs.Configuration.{Configuration, position_at, position_of}
 use Rattle.chain_stats.specs.declared.fraction.Fraction.{Fraction}
-
--- the squared length of a vector
-abbrev pub square_of : P3 → ℕ
-square_of v = nat_abs v.x * nat_abs v.x + nat_abs v.y * nat_abs v.y + nat_abs v.z * nat_abs v.z
 
 -- the sum of the vectors of these monomers, and the sum of their squared lengths
 abbrev pub vector_sum : (ℕ → P3) → List ℕ → P3

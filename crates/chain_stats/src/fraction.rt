@@ -1,8 +1,8 @@
 ghost use Rattle.std.specs.Prelude.{◌≡◌, ◌+◌, ◌*◌, ◌<◌, ◌≤◌, length};
 ghost use Rattle.bfm_base.specs.Place.{extent_of};
-ghost use Rattle.bfm_geom.specs.Difference.{IsWithin, minus};
+ghost use Rattle.bfm_geom.specs.Difference.{IsWithin, minus, square_of};
 ghost use Rattle.bfm_world.specs.Configuration.{position_of, reach_of};
-ghost use Rattle.chain_stats.specs.Fractions.{AreMembers, square_of, vector_sum, square_sum, radius_of, end_square_of, displacement_of, drift_of, mean_square_of};
+ghost use Rattle.chain_stats.specs.Fractions.{AreMembers, vector_sum, square_sum, radius_of, end_square_of, displacement_of, drift_of, mean_square_of};
 
 use crate::vectors::{DISPLACEMENT_REACH, VectorSum, square};
 use bfm_base::P3;

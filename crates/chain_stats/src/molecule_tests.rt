@@ -3,6 +3,7 @@ use bfm_base::limits::WORLD_REACH;
 use bfm_base::{P3, Shape};
 use bfm_world::{World, WorldBuilder};
 use bond_set::BondSet;
+use contact_table::Table;
 use std::alloc::{AllocError, Global};
 use std::process::Abort;
 use std::test::Fail;
@@ -36,7 +37,7 @@ fn world_of(
 ) -> Result<World, AllocError> {
     let set = BondSet::usual(alloc)?;
     assert!(rt; !places.is_empty() && places.len() <= 100);
-    let mut builder = WorldBuilder::new(alloc, BOX, set, places.len() as u32)?;
+    let mut builder = WorldBuilder::new(alloc, BOX, set, Table::new(), places.len() as u32)?;
     for p in places {
         assert!(rt; builder.placed() < builder.count() as usize && p.extent() <= WORLD_REACH);
         assert!(rt; builder.place(*p).is_ok());

@@ -6,6 +6,7 @@ use bfm_base::limits::{MOST_MONOMERS, WORLD_REACH};
 use bfm_base::{P3, Shape};
 use bfm_world::{World, WorldBuilder};
 use bond_set::BondSet;
+use contact_table::Table;
 use std::alloc::{AllocError, Global};
 use std::process::Abort;
 use std::test::Fail;
@@ -26,7 +27,7 @@ fn world_of(rt: &impl Abort, alloc: Global, places: &[P3]) -> Result<World, Allo
     };
     let set = BondSet::new(alloc);
     assert!(rt; set.finish().is_ok());
-    let mut builder = WorldBuilder::new(alloc, shape, set, places.len() as u32)?;
+    let mut builder = WorldBuilder::new(alloc, shape, set, Table::new(), places.len() as u32)?;
     for p in places {
         assert!(rt; builder.placed() < builder.count() as usize && p.extent() <= WORLD_REACH);
         assert!(rt; builder.place(*p).is_ok());

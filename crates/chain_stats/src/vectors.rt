@@ -1,6 +1,5 @@
 ghost use Rattle.std.specs.Prelude.{◌≡◌, ◌≤◌, ◌*◌, pos};
-ghost use Rattle.bfm_geom.specs.Difference.{IsWithin, plus};
-ghost use Rattle.chain_stats.specs.Fractions.{square_of};
+ghost use Rattle.bfm_geom.specs.Difference.{IsWithin, plus, square_of};
 
 use bfm_base::P3;
 use bfm_base::limits::{MOST_MONOMERS, WORLD_REACH};

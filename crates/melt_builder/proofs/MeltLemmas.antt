@@ -1,30 +1,30 @@
 -- A melt whose monomers are all placed, and one whose chains are joined too.
-use Rattle.std.proofs.Common.{◌≡◌, ℕ, zero, suc, ◌+◌, ◌*◌, ◌<◌, ◌≤◌, true, List, length, map, ap, sym, ◌∙◌, subst, arith, pos, ◌↔◌}
-use Rattle.std.specs.List.{range_with_len}
+use Rattle.std.proofs.Common.{◌≡◌, ℕ, ◌+◌, ◌*◌, ◌<◌, ◌≤◌, true, List, length, ap, sym, ◌∙◌, subst, arith, pos, ◌↔◌}
 use Rattle.std.proofs.lemmas.List.FromFn.{get_or-map-range_with_len}
 use Rattle.bfm_base.specs.declared.limits.TheConstants.{GREATEST_SIDE}
 use Rattle.bfm_base.specs.declared.place.P3.{P3}
 use Rattle.bfm_base.specs.declared.place.Shape.{Shape}
-use Rattle.bfm_base.specs.Place.{extent_of}
 use Rattle.bfm_geom.specs.Difference.{IsBox}
 use Rattle.bond_set.specs.UsualSet.{usual_set}
+use Rattle.contact_table.specs.Contacts.{ContactTable, no_contacts}
 use Rattle.bfm_world.specs.Bonds.{are_bonded}
 use Rattle.bfm_world.specs.Configuration.{Configuration, may_bond, position_at, position_of, reach_of}
 use Rattle.bfm_world.specs.Draft.{Draft, begun, with_positions, with_bonds}
 use Rattle.bfm_world.specs.Chains.{chain_bonds, AreSuccessive, LiesTwoOn}
 use Rattle.melt_builder.specs.Melt.{cells_in, place_of, melt_positions, melt_world}
 use Rattle.bfm_world.proofs.ChainLemmas.{are_bonded-chain_bonds}
-use Rattle.bfm_world.proofs.StartLemmas.{may_bond-two}
+use Rattle.bfm_world.proofs.StartLemmas.{may_bond-two, reach_of-map-range_with_len}
 use Rattle.melt_builder.proofs.PlaceLemmas.{length-melt_positions, place_of-near, place_of-next}
 
 abbrev pub placed : Shape → ℕ → Draft
-placed shape n = with_positions (begun shape usual_set n) (melt_positions shape n)
+placed shape n = with_positions (begun shape usual_set no_contacts n) (melt_positions shape n)
 
-pub all_placed : (b now : Draft) (shape : Shape) (set : List (P3 × ℕ)) (n : ℕ) → set ≡ usual_set → b ≡ begun shape set n → now ≡ with_positions b (melt_positions b.world.shape n) → now ≡ placed shape n
-all_placed b now shape set n usual new all =
+pub all_placed : (b now : Draft) (shape : Shape) (set : List (P3 × ℕ)) (table : ContactTable) (n : ℕ) → set ≡ usual_set → table ≡ no_contacts → b ≡ begun shape set table n → now ≡ with_positions b (melt_positions b.world.shape n) → now ≡ placed shape n
+all_placed b now shape set table n usual none new all =
     all
     ∙ (ap (λ (d : Draft). with_positions d (melt_positions d.world.shape n)) new
-    ∙ ap (λ s. with_positions (begun shape s n) (melt_positions shape n)) usual)
+    ∙ (ap (λ s. with_positions (begun shape s table n) (melt_positions shape n)) usual
+    ∙ ap (λ t. with_positions (begun shape usual_set t n) (melt_positions shape n)) none))
 
 pub all_joined : (now joined : Draft) (shape : Shape) (n size : ℕ) → now ≡ placed shape n → joined ≡ with_bonds now (chain_bonds size now.count) → joined ≡ with_bonds (placed shape n) (chain_bonds size n)
 all_joined now joined shape n size e f = f ∙ ap (λ (d : Draft). with_bonds d (chain_bonds size d.count)) e
@@ -57,14 +57,6 @@ bonded-melt w shape chains size i j e l =
 pub next-melt : (w : Configuration) (shape : Shape) (chains size k : ℕ) → IsBox shape → w ≡ melt_world shape chains size → k + 1 < chains * size → LiesTwoOn (position_of w k) (position_of w (k + 1))
 next-melt w shape chains size k box e l =
     subst (λ (c : Configuration). LiesTwoOn (position_of c k) (position_of c (k + 1))) (sym e) (next_of shape (chains * size) k box l)
-
--- places that are each no further than a bound reach no further
-reach_of-map-range_with_len : (place : ℕ → P3) (first n most : ℕ) → ((k : ℕ) → k < first + n → extent_of (place k) ≤ most) → reach_of (map place (range_with_len first n)) ≤ most
-reach_of-map-range_with_len place first zero most near = omega arith
-reach_of-map-range_with_len place first (suc n) most near =
-    let here : extent_of (place first) ≤ most = near first (omega arith) in
-    let rest : reach_of (map place (range_with_len (first + 1) n)) ≤ most = reach_of-map-range_with_len place (first + 1) n most (λ k l. near k (omega arith)) in
-    omega arith
 
 -- no coordinate of a melt is above the greatest side
 pub near-melt : (w : Configuration) (shape : Shape) (chains size : ℕ) → IsBox shape → w ≡ melt_world shape chains size → chains * size ≤ cells_in shape → reach_of w.positions ≤ GREATEST_SIDE

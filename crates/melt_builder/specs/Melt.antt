@@ -6,6 +6,7 @@ use Rattle.bfm_base.specs.declared.place.P3.{P3}
 use Rattle.bfm_base.specs.declared.place.Shape.{Shape}
 use Rattle.bfm_geom.specs.Difference.{side_of}
 use Rattle.bond_set.specs.UsualSet.{usual_set}
+use Rattle.contact_table.specs.Contacts.{no_contacts}
 use Rattle.bfm_world.specs.Configuration.{Configuration}
 use Rattle.bfm_world.specs.Draft.{begun, with_positions, with_bonds}
 use Rattle.bfm_world.specs.Chains.{chain_bonds}
@@ -41,4 +42,4 @@ melt_positions shape n = map (place_of shape) (range_with_len 0 n)
 abbrev pub melt_world : Shape → ℕ → ℕ → Configuration
 melt_world shape chains length =
     let n = chains * length in
-    (with_bonds (with_positions (begun shape usual_set n) (melt_positions shape n)) (chain_bonds length n)).world
+    (with_bonds (with_positions (begun shape usual_set no_contacts n) (melt_positions shape n)) (chain_bonds length n)).world

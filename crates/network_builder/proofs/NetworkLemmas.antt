@@ -1,18 +1,18 @@
 -- A network whose monomers are all placed, and one whose strands are joined along all axes too.
-use Rattle.std.proofs.Common.{◌≡◌, ℕ, zero, suc, ◌+◌, ◌<◌, ◌≤◌, Bool, true, false, ◌||◌, ◌⊎◌, inl, inr, List, [], length, map, replicate, refl, ap, sym, ◌∙◌, subst, arith}
-use Rattle.std.specs.List.{range_with_len}
+use Rattle.std.proofs.Common.{◌≡◌, ℕ, zero, suc, ◌<◌, ◌≤◌, Bool, true, false, ◌||◌, ◌⊎◌, inl, inr, List, [], length, replicate, refl, ap, sym, ◌∙◌, subst, arith}
 use Rattle.std.proofs.lemmas.Bool.{and_parts, cases_lt}
 use Rattle.std.proofs.lemmas.List.FromFn.{fill_by_all, get_or-map-range_with_len}
 use Rattle.bfm_base.specs.declared.limits.TheConstants.{GREATEST_SIDE}
 use Rattle.bfm_base.specs.declared.place.P3.{P3}
-use Rattle.bfm_base.specs.Place.{extent_of}
 use Rattle.bfm_base.specs.Direction.{step_of}
 use Rattle.bfm_geom.specs.Difference.{plus, minus, wrapped}
 use Rattle.bond_set.specs.UsualSet.{usual_set}
+use Rattle.contact_table.specs.Contacts.{ContactTable, no_contacts}
 use Rattle.bfm_world.specs.Bonds.{neighbours_of, are_bonded, AreBonds}
 use Rattle.bfm_world.specs.Configuration.{Configuration, IsValid, position_of, reach_of}
 use Rattle.bfm_world.specs.Draft.{Draft, begun, with_positions, with_bonds}
 use Rattle.bfm_world.proofs.BondLemmas.{has, test-eq}
+use Rattle.bfm_world.proofs.StartLemmas.{reach_of-map-range_with_len}
 use Rattle.network_builder.specs.declared.nodes.Axis.{Axis}
 use Rattle.network_builder.specs.declared.nodes.Axis.TheVariants.{X, Y, Z}
 use Rattle.network_builder.specs.Network.{IsNetwork, monomers_in, network_shape, place_of, network_positions, is_on, next_along, comes_after, are_joined_along, are_joined, network_neighbours, network_bonds, network_world, direction_along}
@@ -26,7 +26,7 @@ no_neighbours (suc n) zero = refl
 no_neighbours (suc n) (suc i) = no_neighbours n i
 
 abbrev pub placed : ℕ → ℕ → Draft
-placed nodes strand = with_positions (begun (network_shape nodes strand) usual_set (monomers_in nodes strand)) (network_positions nodes strand)
+placed nodes strand = with_positions (begun (network_shape nodes strand) usual_set no_contacts (monomers_in nodes strand)) (network_positions nodes strand)
 
 none_before : (a x y z : Bool) → a ≡ false → (((a || x) || y) || z) ≡ ((x || y) || z)
 none_before a x y z h = ap (λ t. ((t || x) || y) || z) h
@@ -66,13 +66,14 @@ all_joined nodes strand a b c d none x y z i j li lj =
     ∙ none_before (are_bonded a i j) (are_joined_along nodes strand X i j) (are_joined_along nodes strand Y i j) (are_joined_along nodes strand Z i j) (ap (has j) (none i))))
 
 -- ---- the world that is built
-pub begun_placed : (nodes strand n : ℕ) (set : List (P3 × ℕ)) (new now : Draft) → n ≡ monomers_in nodes strand → set ≡ usual_set → new ≡ begun (network_shape nodes strand) set n
+pub begun_placed : (nodes strand n : ℕ) (set : List (P3 × ℕ)) (table : ContactTable) (new now : Draft) → n ≡ monomers_in nodes strand → set ≡ usual_set → table ≡ no_contacts → new ≡ begun (network_shape nodes strand) set table n
     → now ≡ with_positions new (network_positions nodes strand) → now ≡ placed nodes strand
-begun_placed nodes strand n set new now count usual e all =
+begun_placed nodes strand n set table new now count usual none e all =
     all
     ∙ (ap (λ d. with_positions d (network_positions nodes strand)) e
-    ∙ (ap (λ s. with_positions (begun (network_shape nodes strand) s n) (network_positions nodes strand)) usual
-    ∙ ap (λ k. with_positions (begun (network_shape nodes strand) usual_set k) (network_positions nodes strand)) count))
+    ∙ (ap (λ s. with_positions (begun (network_shape nodes strand) s table n) (network_positions nodes strand)) usual
+    ∙ (ap (λ t. with_positions (begun (network_shape nodes strand) usual_set t n) (network_positions nodes strand)) none
+    ∙ ap (λ k. with_positions (begun (network_shape nodes strand) usual_set no_contacts k) (network_positions nodes strand)) count)))
 
 pub unbonded : (nodes strand : ℕ) (now : Draft) → now ≡ placed nodes strand → (i : ℕ) → neighbours_of now.world.bonds i ≡ []
 unbonded nodes strand now e i = ap (λ (d : Draft). neighbours_of d.world.bonds i) e ∙ no_neighbours (monomers_in nodes strand) i
@@ -116,14 +117,6 @@ steps-network w nodes strand axis i j net e l after =
     ∙ (ap (λ q. wrapped (network_shape nodes strand) (minus q (position_of (network_world nodes strand) i))) (position_at-network nodes strand j l')
     ∙ (ap (λ p. wrapped (network_shape nodes strand) (minus (place_of nodes strand j) p)) (position_at-network nodes strand i l)
     ∙ subst (λ k. wrapped (network_shape nodes strand) (minus (place_of nodes strand k) (place_of nodes strand i)) ≡ plus (step_of (direction_along axis)) (step_of (direction_along axis))) here (wrapped-next nodes strand net axis i l parts.0)))
-
--- places that are each no further than a bound reach no further
-reach_of-map-range_with_len : (place : ℕ → P3) (first n most : ℕ) → ((k : ℕ) → k < first + n → extent_of (place k) ≤ most) → reach_of (map place (range_with_len first n)) ≤ most
-reach_of-map-range_with_len place first zero most near = omega arith
-reach_of-map-range_with_len place first (suc n) most near =
-    let here : extent_of (place first) ≤ most = near first (omega arith) in
-    let rest : reach_of (map place (range_with_len (first + 1) n)) ≤ most = reach_of-map-range_with_len place (first + 1) n most (λ k l. near k (omega arith)) in
-    omega arith
 
 -- no coordinate of a network is above the greatest side
 pub near-network : (w : Configuration) (nodes strand : ℕ) → IsNetwork nodes strand → w ≡ network_world nodes strand → reach_of w.positions ≤ GREATEST_SIDE

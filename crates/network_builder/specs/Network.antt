@@ -9,6 +9,7 @@ use Rattle.bfm_base.specs.declared.place.Dir.{Dir}
 use Rattle.bfm_base.specs.declared.place.Dir.TheVariants.{XUp, YUp, ZUp}
 use Rattle.bfm_base.specs.declared.place.Shape.{Shape}
 use Rattle.bond_set.specs.UsualSet.{usual_set}
+use Rattle.contact_table.specs.Contacts.{no_contacts}
 use Rattle.bfm_world.specs.Configuration.{Configuration}
 use Rattle.bfm_world.specs.Draft.{begun, with_positions, with_bonds}
 use Rattle.network_builder.specs.declared.nodes.Axis.{Axis}
@@ -127,5 +128,5 @@ direction_along Z = ZUp
 
 abbrev pub network_world : ℕ → ℕ → Configuration
 network_world nodes strand =
-    let new = begun (network_shape nodes strand) usual_set (monomers_in nodes strand) in
+    let new = begun (network_shape nodes strand) usual_set no_contacts (monomers_in nodes strand) in
     (with_bonds (with_positions new (network_positions nodes strand)) (network_bonds nodes strand)).world

@@ -1,8 +1,8 @@
 use Rattle.std.proofs.Common.{◌≡◌, ◌*◌, ◌≤◌, take}
-use Rattle.bfm_geom.specs.Difference.{IsWithin}
+use Rattle.bfm_geom.specs.Difference.{IsWithin, square_of}
 use Rattle.bfm_world.specs.Configuration.{position_of}
 use Rattle.chain_stats.specs.declared.vectors.TheConstants.{DISPLACEMENT_REACH}
-use Rattle.chain_stats.specs.Fractions.{square_of, vector_sum, square_sum}
+use Rattle.chain_stats.specs.Fractions.{vector_sum, square_sum}
 use Rattle.chain_stats.proofs.fraction.radius.Given as goal
 
 abbrev pub invariant-loop-i : goal.invariant-loop-i
