@@ -7,6 +7,7 @@ use Rattle.bfm_commands.specs.Causes.{is_box_too_large, some_missing, is_overful
 use Rattle.bfm_commands.specs.Reading.{begin_fault, begun_draft, names_beyond_in, with_marks}
 use Rattle.bfm_base.specs.declared.place.P3.{P3}
 use Rattle.bfm_base.specs.declared.place.Shape.{Shape}
+use Rattle.contact_table.specs.Contacts.{ContactTable}
 use Rattle.bfm_world.specs.Draft.{Draft, begun, with_bonds}
 use Rattle.bfm_commands.specs.declared.header.Header.{Header}
 
@@ -25,12 +26,12 @@ begin_fault-joined header full count bonds list small paired there present numbe
     (ap is_overfull (sym (ap (λ b. with_pairs b list) (none ∙ ap (λ n. replicate n []) number) ∙ ap (with_pairs (replicate (count_in header.settings) [])) listed)) ∙ over)
 
 -- the world that is begun, step by step
-pub begun_draft-made : (header : Header) (begins joins marks : Draft) (shape : Shape) (set : List (P3 × ℕ)) (count : ℕ) (list : List (ℕ × ℕ))
-    → begins ≡ begun shape set count → joins ≡ with_bonds begins (with_pairs begins.world.bonds list)
+pub begun_draft-made : (header : Header) (begins joins marks : Draft) (shape : Shape) (set : List (P3 × ℕ)) (table : ContactTable) (count : ℕ) (list : List (ℕ × ℕ))
+    → begins ≡ begun shape set table count → joins ≡ with_bonds begins (with_pairs begins.world.bonds list)
     → marks ≡ with_marks joins (said_of_each header.labels joins.count) (said_of_each header.valences joins.count) (fixed_of_each header.fixed joins.count)
-    → shape ≡ shape_in header.settings → set ≡ header.set → count ≡ count_in header.settings → list ≡ header.pairs → marks ≡ begun_draft header
-begun_draft-made header begins joins marks shape set count list b j m is_shape is_set is_count is_list =
-    m ∙ rw (j, b, is_shape, is_set, is_count, is_list) refl
+    → shape ≡ shape_in header.settings → set ≡ header.set → table ≡ header.table → count ≡ count_in header.settings → list ≡ header.pairs → marks ≡ begun_draft header
+begun_draft-made header begins joins marks shape set table count list b j m is_shape is_set is_table is_count is_list =
+    m ∙ rw (j, b, is_shape, is_set, is_table, is_count, is_list) refl
 
 -- what a success says, where there is no error
 pub OnOk-when : {A E : Type 0} (r : Result A E) {P : Type 0} → OnOk r P → is_err r ≡ false → P

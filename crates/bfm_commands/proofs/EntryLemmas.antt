@@ -4,11 +4,11 @@ use Rattle.bfm_lexer.specs.Kinds.{kind_of}
 use Rattle.bfm_lexer.specs.declared.kinds.LineKind.{LineKind}
 use Rattle.bfm_lexer.specs.declared.kinds.LineKind.TheVariants as kinds
 use Rattle.bfm_commands.specs.Commands.{command_of}
-use Rattle.bfm_commands.specs.Forms.{vector_entry, pair_entry, range_entry, monomers_entry}
+use Rattle.bfm_commands.specs.Forms.{vector_entry, pair_entry, range_entry, monomers_entry, contact_entry, threshold_entry}
 use Rattle.bfm_commands.specs.Meaning.{nothing, command, entry, meant, text_meaning, meaning_of}
-use Rattle.bfm_commands.specs.History.{History, owner_of, entry_of, given_in, draft_of, with_vector, with_listed, with_said, with_range, with_added, with_removed, is_skipped, skipped_of}
+use Rattle.bfm_commands.specs.History.{History, owner_of, entry_of, given_in, draft_of, with_vector, with_listed, with_said, with_range, with_contact, with_acceptance, with_added, with_removed, is_skipped, skipped_of}
 use Rattle.bfm_commands.specs.Verdict.{bytes_in}
-use Rattle.bfm_commands.specs.Causes.{entry_cause, frame_cause, added_cause, removed_cause, vector_cause}
+use Rattle.bfm_commands.specs.Causes.{entry_cause, frame_cause, added_cause, removed_cause, threshold_cause, vector_cause}
 use Rattle.bfm_commands.specs.Reading.{follows_header, owns_changes, is_complete, standing, entry_fault, frames_fault, with_entry, IsReady, TakesEntry, IsBeforeFrames, AreFrames, CountsAtMost, Sums}
 use Rattle.bfm_commands.specs.declared.commands.Known.{Known}
 use Rattle.bfm_commands.specs.declared.commands.Known.TheVariants.{NumberOfMonomers, BoxX, BoxY, BoxZ, PeriodicX, PeriodicY, PeriodicZ, SetOfBondVectors, Bonds, Attributes, Valence, Fixed, Contacts, Acceptance, Mcs, AddBonds, RemoveBonds, Stream, Solid}
@@ -81,7 +81,7 @@ module _ (s : Summary) (before : History) (sums : Sums s before) (known : Known)
         by_known Valence e = refl
         by_known Fixed e = refl
         by_known Contacts e = refl
-        by_known Acceptance e = refl
+        by_known Acceptance e = ap (λ t. threshold_cause t.thresholds text) (sym b.gives.table)
         by_known Mcs e = absurd (owner_of-none before b.none e)
         by_known AddBonds e = absurd (no_change e refl)
         by_known RemoveBonds e = absurd (no_change e refl)
@@ -99,7 +99,9 @@ module _ (s : Summary) (before : History) (sums : Sums s before) (known : Known)
           (ap (λ (h : Header). h.pairs) header ∙ ap (λ o. with_listed s.header.pairs (given_in pair_entry (entry_of Bonds o (entry text)))) (sym owned))
           (ap (λ (h : Header). h.labels) header ∙ ap (λ o. with_said s.header.labels (given_in (λ t. range_entry t GREATEST_LABEL) (entry_of Attributes o (entry text)))) (sym owned))
           (ap (λ (h : Header). h.valences) header ∙ ap (λ o. with_said s.header.valences (given_in (λ t. range_entry t GREATEST_VALENCE) (entry_of Valence o (entry text)))) (sym owned))
-          (ap (λ (h : Header). h.fixed) header ∙ ap (λ o. with_range s.header.fixed (given_in monomers_entry (entry_of Fixed o (entry text)))) (sym owned)));
+          (ap (λ (h : Header). h.fixed) header ∙ ap (λ o. with_range s.header.fixed (given_in monomers_entry (entry_of Fixed o (entry text)))) (sym owned))
+          (ap (λ (h : Header). h.table) header
+          ∙ ap (λ o. with_acceptance (with_contact s.header.table (given_in contact_entry (entry_of Contacts o (entry text)))) (given_in threshold_entry (entry_of Acceptance o (entry text)))) (sym owned)));
     }
 
   -- an entry among frames

@@ -10,7 +10,7 @@ use Rattle.bfm_base.specs.declared.limits.TheConstants.{GREATEST_NUMBER, START_R
 use Rattle.bfm_lexer.specs.Fields.{◌>>=◌, behind_mark, number_field, lone_number, lone_natural, number_before, natural_before}
 use Rattle.bfm_lexer.specs.Cursor.{capped, capped_natural, handed, handed_natural}
 use Rattle.bfm_lexer.proofs.NumberLemmas.{unsigned_abs-capped, capped-within}
-use Rattle.bfm_commands.specs.Forms.{Numbered, value_number, vector_numbers, pair_numbers, single_numbers, span_numbers, range_numbers, string_of, frame_numbers, natural_within, monomer_of, limited_value, value_of, limited_vector, vector_entry, other_monomers, limited_pair, pair_entry, ordered_monomers, limited_monomers, monomers_entry, monomers_numbers, lone_pair, lone_span, valued_range, limited_range, range_entry, contact_numbers, weight_of, contact_of, limited_contact, contact_entry, threshold_entry, limited_frame, frame_line}
+use Rattle.bfm_commands.specs.Forms.{Numbered, value_number, vector_numbers, pair_numbers, single_numbers, span_numbers, range_numbers, string_of, frame_numbers, natural_within, monomer_of, limited_value, value_of, limited_vector, vector_entry, other_monomers, limited_pair, pair_entry, ordered_monomers, limited_monomers, monomers_entry, monomers_numbers, lone_pair, lone_span, valued_range, limited_range, range_entry, contact_numbers, weight_within, contact_of, limited_contact, contact_entry, threshold_entry, limited_frame, frame_line}
 use Rattle.bfm_commands.specs.Capped.{capped_place, capped_vector, capped_pair, capped_numbered, capped_frame}
 
 -- A step of a reading, where what comes after it gives the same of a number and of what is handed on of it.
@@ -258,8 +258,8 @@ weight_same w true size =
     ap (λ (n : ℤ). Some n) (capped-within w low)
 weight_same w false size = refl
 
-weight_of-capped : (w : ℤ) → weight_of (capped w) ≡ weight_of w
-weight_of-capped w =
+weight_within-capped : (w : ℤ) → weight_within (capped w) ≡ weight_within w
+weight_within-capped w =
     let size = ap (λ n. nat_le n GREATEST_WEIGHT) (unsigned_abs-capped w) ∙ test_capped (unsigned_abs w) GREATEST_WEIGHT (lit≤ tt) in
     ap (λ t. cond t (Some (capped w)) None) size ∙ weight_same w (nat_le (unsigned_abs w) GREATEST_WEIGHT) refl
 
@@ -267,9 +267,9 @@ limited_contact-capped : (o : Option Numbered) → limited_contact (option_map c
 limited_contact-capped None = refl
 limited_contact-capped (Some entry) =
     let class : (n : ℤ) → natural_within 1 GREATEST_CLASS (capped n) ≡ natural_within 1 GREATEST_CLASS n = λ n. natural_within-capped 1 GREATEST_CLASS n (lit≤ tt) in
-    ap (λ a. contact_of a (natural_within 1 GREATEST_CLASS (capped entry.0.1)) (weight_of (capped entry.1))) (class entry.0.0)
-    ∙ ap (λ b. contact_of (natural_within 1 GREATEST_CLASS entry.0.0) b (weight_of (capped entry.1))) (class entry.0.1)
-    ∙ ap (contact_of (natural_within 1 GREATEST_CLASS entry.0.0) (natural_within 1 GREATEST_CLASS entry.0.1)) (weight_of-capped entry.1)
+    ap (λ a. contact_of a (natural_within 1 GREATEST_CLASS (capped entry.0.1)) (weight_within (capped entry.1))) (class entry.0.0)
+    ∙ ap (λ b. contact_of (natural_within 1 GREATEST_CLASS entry.0.0) b (weight_within (capped entry.1))) (class entry.0.1)
+    ∙ ap (contact_of (natural_within 1 GREATEST_CLASS entry.0.0) (natural_within 1 GREATEST_CLASS entry.0.1)) (weight_within-capped entry.1)
 
 limited_value-capped : (least greatest : ℕ) (o : Option ℤ) → greatest ≤ 2 ^ 62 → limited_value least greatest (option_map capped o) ≡ limited_value least greatest o
 limited_value-capped least greatest None low = refl

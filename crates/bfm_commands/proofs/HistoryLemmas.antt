@@ -5,7 +5,7 @@ use Rattle.bfm_base.specs.declared.place.P3.{P3}
 use Rattle.bfm_world.specs.Draft.{Draft, with_positions, with_bonds}
 use Rattle.bfm_commands.specs.Forms.{pair_entry, frame_line}
 use Rattle.bfm_commands.specs.Meaning.{Meaning, nothing, command, entry, meaning_of}
-use Rattle.bfm_commands.specs.History.{History, begins, has_begun, header_of, owner_after, owner_of, entry_of, given_in, given_by, given_of, shape_in, count_in, set_of, pairs_of, labels_of, valences_of, fixed_of, said_of_each, fixed_of_each, with_pairs, listed_bonds, line_positions, positions_by, positions_of, time_after, mcs_of, is_first_frame, chain, shown_by, pair_in, with_added, with_removed, bonds_after, bonds_of, draft_of, is_whole, completes, last_whole, frames_of, first_positions}
+use Rattle.bfm_commands.specs.History.{History, begins, has_begun, header_of, owner_after, owner_of, entry_of, given_in, given_by, given_of, shape_in, count_in, set_of, pairs_of, labels_of, valences_of, fixed_of, table_of, said_of_each, fixed_of_each, with_pairs, listed_bonds, line_positions, positions_by, positions_of, time_after, mcs_of, is_first_frame, chain, shown_by, pair_in, with_added, with_removed, bonds_after, bonds_of, draft_of, is_whole, completes, last_whole, frames_of, first_positions}
 use Rattle.bfm_commands.specs.Placing.{with_line}
 use Rattle.bfm_commands.specs.Reading.{is_complete, taken_line, follows_header, owns_changes}
 use Rattle.bfm_commands.specs.declared.commands.Known.{Known}
@@ -91,6 +91,7 @@ draft_from header positions bonds = record {
   world = record {
     shape = shape_in (given_of header);
     set = set_of header;
+    table = table_of header;
     positions = positions;
     bonds = bonds;
     labels = said_of_each (labels_of header) (count_in (given_of header));

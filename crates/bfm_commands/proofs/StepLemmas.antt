@@ -5,14 +5,14 @@ use Rattle.bfm_base.specs.declared.cause.Cause.TheVariants.{BadLine, Misplaced, 
 use Rattle.bfm_lexer.specs.Kinds.{is_bare}
 use Rattle.bfm_base.specs.declared.limits.TheConstants.{GREATEST_MCS, GREATEST_LABEL, GREATEST_VALENCE}
 use Rattle.bfm_world.specs.Draft.{with_positions}
-use Rattle.bfm_commands.specs.Forms.{value_of, value_number, vector_entry, pair_entry, range_entry, monomers_entry}
+use Rattle.bfm_commands.specs.Forms.{value_of, value_number, vector_entry, pair_entry, range_entry, monomers_entry, contact_entry, threshold_entry}
 use Rattle.bfm_commands.specs.Meaning.{meaning_of, command, role_of}
-use Rattle.bfm_commands.specs.History.{History, begins, has_begun, owner_of, entry_of, given_in, given_by, given_of, given_as, stands, set_of, pairs_of, labels_of, valences_of, fixed_of, with_vector, with_listed, with_said, with_range, is_skipped, skipped_of, natural_in, draft_of}
+use Rattle.bfm_commands.specs.History.{History, begins, has_begun, owner_of, entry_of, given_in, given_by, given_of, given_as, stands, set_of, pairs_of, labels_of, valences_of, fixed_of, with_vector, with_listed, with_said, with_range, with_contact, with_acceptance, table_of, is_skipped, skipped_of, natural_in, draft_of}
 use Rattle.bfm_commands.specs.Causes.{command_cause, known_cause, is_cut_short, is_header_command}
 use Rattle.bfm_commands.specs.Reading.{IsFault, value_fault, begin_fault, next_fault, begun_draft, is_complete, standing, owns_changes, IsBeforeFrames, AreFrames, Sums, GivesHeader, GivesFrame}
 use Rattle.bfm_commands.specs.declared.fault.LineFault.{LineFault}
 use Rattle.bfm_commands.specs.declared.commands.Known.{Known}
-use Rattle.bfm_commands.specs.declared.commands.Known.TheVariants.{SetOfBondVectors, Bonds, Attributes, Valence, Fixed, Mcs, AddBonds, RemoveBonds}
+use Rattle.bfm_commands.specs.declared.commands.Known.TheVariants.{SetOfBondVectors, Bonds, Attributes, Valence, Fixed, Contacts, Acceptance, Mcs, AddBonds, RemoveBonds}
 use Rattle.bfm_commands.specs.declared.owner.Owner.TheVariants.{Command}
 use Rattle.bfm_commands.specs.declared.role.Role.TheVariants as roles
 use Rattle.bfm_commands.specs.declared.header.Header.{Header}
@@ -60,6 +60,7 @@ module _ (s : Summary) (before : History) (sums : Sums s before) where
           labels = ap (λ (h : Header). h.labels) header ∙ b.gives.labels;
           valences = ap (λ (h : Header). h.valences) header ∙ b.gives.valences;
           fixed = ap (λ (h : Header). h.fixed) header ∙ b.gives.fixed;
+          table = ap (λ (h : Header). h.table) header ∙ b.gives.table;
         }
 
   -- the line that begins a frame
@@ -178,6 +179,8 @@ module _ (s : Summary) (before : History) (known : Known) (rest line : List ℕ)
         labels = g.labels ∙ sym (ap (λ t. with_said (labels_of before) (given_in (λ text. range_entry text GREATEST_LABEL) t)) (none Attributes));
         valences = g.valences ∙ sym (ap (λ t. with_said (valences_of before) (given_in (λ text. range_entry text GREATEST_VALENCE) t)) (none Valence));
         fixed = g.fixed ∙ sym (ap (λ t. with_range (fixed_of before) (given_in monomers_entry t)) (none Fixed));
+        table = g.table ∙ sym (ap (λ t. with_acceptance (with_contact (table_of before) (given_in contact_entry (entry_of Contacts (owner_of before) (meaning_of line)))) (given_in threshold_entry t)) (none Acceptance)
+            ∙ ap (λ t. with_contact (table_of before) (given_in contact_entry t)) (none Contacts));
       };
     });
   }

@@ -2,14 +2,15 @@
 use Rattle.std.proofs.Common.{◌≡◌, ℕ, ◌≤◌, Bool, true, false, not, ◌||◌, List, [], ◌∷◌, ◌++◌, length, Option, None, Some, MatchOption, unwrap_or, refl, ap, sym, ◌∙◌, subst, arith}
 use Rattle.std.specs.Prelude.{◌==◌}
 use Rattle.std.proofs.lemmas.Bool.Decides.{nat_tests}
+use Rattle.contact_table.specs.Contacts.{ContactTable}
 use Rattle.bfm_world.specs.Draft.{Draft, with_positions, with_bonds}
-use Rattle.bfm_commands.specs.Forms.{vector_entry, pair_entry, range_entry, monomers_entry, value_number}
+use Rattle.bfm_commands.specs.Forms.{vector_entry, pair_entry, range_entry, monomers_entry, contact_entry, threshold_entry, value_number}
 use Rattle.bfm_commands.specs.Meaning.{Meaning, command, meaning_of}
-use Rattle.bfm_commands.specs.History.{History, begins, has_begun, owner_after, owner_of, entry_of, given_in, given_by, given_of, set_of, pairs_of, said_of, with_vector, with_listed, with_said, with_range, fixed_of, time_after, mcs_of, is_first_frame, draft_of, frames_of, natural_in}
+use Rattle.bfm_commands.specs.History.{History, begins, has_begun, owner_after, owner_of, entry_of, given_in, given_by, given_of, set_of, pairs_of, said_of, with_vector, with_listed, with_said, with_range, fixed_of, with_contact, with_acceptance, table_of, time_after, mcs_of, is_first_frame, draft_of, frames_of, natural_in}
 use Rattle.bfm_commands.specs.Verdict.{bytes_in}
 use Rattle.bfm_commands.specs.Reading.{is_complete, standing, at_whole, follows_header, owns_changes, begun_draft, AreWhole, AreNone, AreFrames, IsBeforeFrames}
 use Rattle.bfm_commands.specs.declared.commands.Known.{Known}
-use Rattle.bfm_commands.specs.declared.commands.Known.TheVariants.{Mcs, SetOfBondVectors, Bonds, Attributes, Valence, Fixed, AddBonds, RemoveBonds}
+use Rattle.bfm_commands.specs.declared.commands.Known.TheVariants.{Mcs, SetOfBondVectors, Bonds, Attributes, Valence, Fixed, Contacts, Acceptance, AddBonds, RemoveBonds}
 use Rattle.bfm_commands.specs.declared.owner.Owner.{Owner}
 use Rattle.bfm_commands.specs.declared.owner.Owner.TheVariants.{Nobody, Unknown, Command}
 use Rattle.bfm_base.specs.declared.limits.TheConstants.{GREATEST_LABEL, GREATEST_VALENCE}
@@ -31,14 +32,20 @@ module _ (header new : Header) (lines : History) (line : List ℕ) (m : Meaning)
       ∙ (ap (λ x. with_said x (given_in (λ t. range_entry t greatest) (entry_of known (owner_of lines) m))) is
       ∙ ap (λ x. with_said (said_of known greatest lines) (given_in (λ t. range_entry t greatest) (entry_of known (owner_of lines) x))) (sym e))
 
+  -- a table with what a line gives of it
+  abbrev tabled : ContactTable → Meaning → ContactTable
+  tabled t x = with_acceptance (with_contact t (given_in contact_entry (entry_of Contacts (owner_of lines) x))) (given_in threshold_entry (entry_of Acceptance (owner_of lines) x))
+
   -- one more line, by what it gives
   pub IsBeforeFrames-line : owns_changes (owner_after (owner_of lines) m) ≡ false
       → new.settings ≡ given_by m ++ header.settings → new.set ≡ with_vector header.set (given_in vector_entry (entry_of SetOfBondVectors (owner_of lines) m))
       → new.pairs ≡ with_listed header.pairs (given_in pair_entry (entry_of Bonds (owner_of lines) m))
       → new.labels ≡ with_said header.labels (given_in (λ t. range_entry t GREATEST_LABEL) (entry_of Attributes (owner_of lines) m))
       → new.valences ≡ with_said header.valences (given_in (λ t. range_entry t GREATEST_VALENCE) (entry_of Valence (owner_of lines) m))
-      → new.fixed ≡ with_range header.fixed (given_in monomers_entry (entry_of Fixed (owner_of lines) m)) → IsBeforeFrames new (line ∷ lines)
-  IsBeforeFrames-line owner settings set pairs labels valences fixed = record {
+      → new.fixed ≡ with_range header.fixed (given_in monomers_entry (entry_of Fixed (owner_of lines) m))
+      → new.table ≡ with_acceptance (with_contact header.table (given_in contact_entry (entry_of Contacts (owner_of lines) m))) (given_in threshold_entry (entry_of Acceptance (owner_of lines) m))
+      → IsBeforeFrames new (line ∷ lines)
+  IsBeforeFrames-line owner settings set pairs labels valences fixed table = record {
     none = still_none;
     owner = ap owns_changes (owner_of-line line lines m e) ∙ owner;
     gives = record {
@@ -51,6 +58,7 @@ module _ (header new : Header) (lines : History) (line : List ℕ) (m : Meaning)
       valences = said_more Valence GREATEST_VALENCE header.valences new.valences h.gives.valences valences;
       fixed = fixed ∙ (ap (λ r. with_range r (given_in monomers_entry (entry_of Fixed (owner_of lines) m))) h.gives.fixed
           ∙ ap (λ x. with_range (fixed_of lines) (given_in monomers_entry (entry_of Fixed (owner_of lines) x))) (sym e));
+      table = table ∙ (ap (λ t. tabled t m) h.gives.table ∙ ap (tabled (table_of lines)) (sym e));
     };
   }
 
@@ -63,6 +71,8 @@ IsBeforeFrames-idle header lines line m e idle h =
     (ap (λ t. with_said header.labels (given_in (λ t. range_entry t GREATEST_LABEL) t)) (sym (adds.2 Attributes)))
     (ap (λ t. with_said header.valences (given_in (λ t. range_entry t GREATEST_VALENCE) t)) (sym (adds.2 Valence)))
     (ap (λ t. with_range header.fixed (given_in monomers_entry t)) (sym (adds.2 Fixed)))
+    (ap (λ t. with_contact header.table (given_in contact_entry t)) (sym (adds.2 Contacts))
+    ∙ ap (λ t. with_acceptance (with_contact header.table (given_in contact_entry (entry_of Contacts (owner_of lines) m))) (given_in threshold_entry t)) (sym (adds.2 Acceptance)))
   where
     no_change : (b : Bool) → owns_changes (owner_after (owner_of lines) m) ≡ b → b ≡ false
     no_change true c = absurd (let was = IsIdle-between (owner_of lines) m idle c in let none = h.owner in cc)
@@ -182,7 +192,7 @@ AreFrames-first header frames lines line rest v e number h frame some mcs whole 
     let begun : has_begun (line ∷ lines) ≡ true = has_begun-line line lines m e in
     let none : frames_of (line ∷ lines) ≡ 0 = frames_of-other line lines m e (no_entry (owner_of lines) (Some Mcs) rest Mcs) ∙ frames_of-none lines h.none in
     let draft : draft_of (line ∷ lines) ≡ begun_draft header =
-    draft_of-first line rest lines e h.none ∙ rw (sym h.gives.settings, sym h.gives.set, sym h.gives.pairs, sym h.gives.labels, sym h.gives.valences, sym h.gives.fixed) refl in
+    draft_of-first line rest lines e h.none ∙ rw (sym h.gives.settings, sym h.gives.set, sym h.gives.pairs, sym h.gives.labels, sym h.gives.valences, sym h.gives.fixed, sym h.gives.table) refl in
     record {
       begun = begun;
       draft = frame ∙ sym draft;

@@ -2,6 +2,7 @@
 use Rattle.std.specs.Prelude.{ℕ, ◌+◌, ◌*◌, Bool, true, false, not, ◌&&◌, ◌||◌, nat_lt, nat_le, ℤ, List, [], ◌∷◌, ◌++◌, length, Option, None, Some, is_some, is_none, Result, Ok, Err, if◌then◌else◌}
 use Rattle.std.specs.List.{list_any, list_all}
 use Rattle.bfm_base.specs.declared.limits.TheConstants.{MOST_SITES, MOST_BONDS, GREATEST_MCS, GREATEST_LABEL, GREATEST_VALENCE}
+use Rattle.contact_table.specs.declared.table.TheConstants.{MOST_THRESHOLDS}
 use Rattle.bfm_base.specs.declared.place.P3.{P3}
 use Rattle.bfm_base.specs.declared.cause.Cause.{Cause}
 use Rattle.bfm_base.specs.declared.cause.Cause.TheVariants.{BadLine, OutOfLimit, Repeated, NotSymmetric, UnknownId, FrameLong, FrameShort, Missing, Misplaced, McsOrder, Outside, Overlap, BadMonomer, BadBond, TooManyBonds, BondUnknown, Unbuilt}
@@ -12,11 +13,11 @@ use Rattle.bfm_world.specs.Configuration.{Configuration, is_clear, keeps_bonds}
 use Rattle.bfm_world.specs.Draft.{Draft}
 use Rattle.bfm_lexer.specs.Lines.{is_long}
 use Rattle.bfm_lexer.specs.Kinds.{is_bare}
-use Rattle.bfm_commands.specs.Forms.{value_number, natural_within, vector_entry, pair_entry, range_entry, monomers_entry, frame_line}
+use Rattle.bfm_commands.specs.Forms.{value_number, natural_within, vector_entry, pair_entry, range_entry, monomers_entry, contact_entry, threshold_entry, frame_line}
 use Rattle.bfm_commands.specs.Meaning.{Meaning, nothing, command, entry, meaning_of, role_of}
-use Rattle.bfm_commands.specs.History.{History, has_begun, owner_of, natural_in, given_of, stands, value_in, count_in, set_of, pairs_of, labels_of, valences_of, fixed_of, with_pairs, listed_bonds, string_positions, mcs_of, is_first_frame, is_whole, draft_of, chain}
+use Rattle.bfm_commands.specs.History.{History, has_begun, owner_of, natural_in, given_of, stands, value_in, count_in, set_of, pairs_of, labels_of, valences_of, fixed_of, table_of, with_pairs, listed_bonds, string_positions, mcs_of, is_first_frame, is_whole, draft_of, chain}
 use Rattle.bfm_commands.specs.declared.commands.Known.{Known}
-use Rattle.bfm_commands.specs.declared.commands.Known.TheVariants.{NumberOfMonomers, BoxX, BoxY, BoxZ, PeriodicX, PeriodicY, PeriodicZ, SetOfBondVectors, Bonds, Attributes, Valence, Fixed, Mcs, AddBonds, RemoveBonds}
+use Rattle.bfm_commands.specs.declared.commands.Known.TheVariants.{NumberOfMonomers, BoxX, BoxY, BoxZ, PeriodicX, PeriodicY, PeriodicZ, SetOfBondVectors, Bonds, Attributes, Valence, Fixed, Contacts, Acceptance, Mcs, AddBonds, RemoveBonds}
 use Rattle.bfm_commands.specs.declared.role.Role.{Role}
 use Rattle.bfm_commands.specs.declared.role.Role.TheVariants as roles
 use Rattle.bfm_commands.specs.declared.owner.Owner.{Owner}
@@ -166,6 +167,14 @@ range_cause greatest text = entered (λ e. None) (range_entry text greatest)
 abbrev pub fixed_cause : List ℕ → Option Cause
 fixed_cause text = entered (λ range. None) (monomers_entry text)
 
+-- an entry that weighs contacts
+abbrev pub contact_cause : List ℕ → Option Cause
+contact_cause text = entered (λ e. None) (contact_entry text)
+
+-- a threshold after those that are there
+abbrev pub threshold_cause : List ℕ → List ℕ → Option Cause
+threshold_cause thresholds text = entered (λ t. if nat_le MOST_THRESHOLDS (length thresholds) then Some OutOfLimit else None) (threshold_entry text)
+
 -- A bond that is added. Whether its vector is in the set is judged with the frame that follows.
 abbrev pub added_cause : Draft → List ℕ → Option Cause
 added_cause draft text =
@@ -231,6 +240,8 @@ entry_cause before (owners.Command Bonds) text = bond_cause text
 entry_cause before (owners.Command Attributes) text = range_cause GREATEST_LABEL text
 entry_cause before (owners.Command Valence) text = range_cause GREATEST_VALENCE text
 entry_cause before (owners.Command Fixed) text = fixed_cause text
+entry_cause before (owners.Command Contacts) text = contact_cause text
+entry_cause before (owners.Command Acceptance) text = threshold_cause (table_of before).thresholds text
 entry_cause before (owners.Command AddBonds) text = added_cause (draft_of before) text
 entry_cause before (owners.Command RemoveBonds) text = removed_cause (draft_of before) text
 entry_cause before (owners.Command Mcs) text = frame_cause (is_first_frame before) (draft_of before) text

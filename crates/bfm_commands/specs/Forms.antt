@@ -165,8 +165,8 @@ limited_range greatest (Some entry) = valued_range (limited_monomers (Some entry
 unfoldable pub range_entry : List ℕ → ℕ → Result (Range × ℕ) Cause
 range_entry line greatest = limited_range greatest (range_numbers line)
 
-abbrev pub weight_of : ℤ → Option ℤ
-weight_of w = if nat_le (unsigned_abs w) GREATEST_WEIGHT then Some w else None
+abbrev pub weight_within : ℤ → Option ℤ
+weight_within w = if nat_le (unsigned_abs w) GREATEST_WEIGHT then Some w else None
 
 abbrev pub contact_of : Option ℕ → Option ℕ → Option ℤ → Result ((ℕ × ℕ) × ℤ) Cause
 contact_of None second weight = Err OutOfLimit
@@ -177,7 +177,7 @@ contact_of (Some first) (Some second) (Some weight) = Ok ((first, second), weigh
 abbrev pub limited_contact : Option Numbered → Result ((ℕ × ℕ) × ℤ) Cause
 limited_contact None = Err BadLine
 limited_contact (Some entry) =
-    contact_of (natural_within 1 GREATEST_CLASS entry.0.0) (natural_within 1 GREATEST_CLASS entry.0.1) (weight_of entry.1)
+    contact_of (natural_within 1 GREATEST_CLASS entry.0.0) (natural_within 1 GREATEST_CLASS entry.0.1) (weight_within entry.1)
 
 -- two classes of monomers, and the weight of their contacts
 unfoldable pub contact_entry : List ℕ → Result ((ℕ × ℕ) × ℤ) Cause

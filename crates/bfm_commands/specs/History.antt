@@ -8,9 +8,10 @@ use Rattle.bfm_base.specs.declared.place.P3.{P3}
 use Rattle.bfm_base.specs.declared.place.Shape.{Shape}
 use Rattle.bfm_geom.specs.Difference.{plus}
 use Rattle.bond_set.specs.BondSet.{vector_of}
+use Rattle.contact_table.specs.Contacts.{ContactTable, no_contacts, with_weight, with_threshold}
 use Rattle.bfm_world.specs.Bonds.{are_bonded, with_bond, without_bond}
 use Rattle.bfm_world.specs.Draft.{Draft}
-use Rattle.bfm_commands.specs.Forms.{value_number, vector_entry, pair_entry, range_entry, monomers_entry, frame_line}
+use Rattle.bfm_commands.specs.Forms.{value_number, vector_entry, pair_entry, range_entry, monomers_entry, contact_entry, threshold_entry, frame_line}
 use Rattle.bfm_commands.specs.Meaning.{Meaning, nothing, command, entry, meaning_of, role_of}
 use Rattle.bfm_commands.specs.declared.commands.Known.{Known}
 use Rattle.bfm_commands.specs.declared.commands.Known.TheVariants.{NumberOfMonomers, BoxX, BoxY, BoxZ, PeriodicX, PeriodicY, PeriodicZ, SetOfBondVectors, Bonds, Attributes, Valence, Fixed, Contacts, Acceptance, Mcs, AddBonds, RemoveBonds, Stream, Solid}
@@ -204,6 +205,23 @@ in_some_from ranges i (suc n) = is_in_some ranges i ∷ in_some_from ranges (i +
 abbrev pub fixed_of_each : List Range → ℕ → List Bool
 fixed_of_each ranges count = in_some_from ranges 0 count
 
+-- Contacts.
+
+abbrev pub with_contact : ContactTable → Option ((ℕ × ℕ) × ℤ) → ContactTable
+with_contact table None = table
+with_contact table (Some e) = with_weight e.0.0 e.0.1 e.1 table
+
+abbrev pub with_acceptance : ContactTable → Option ℕ → ContactTable
+with_acceptance table None = table
+with_acceptance table (Some t) = with_threshold t table
+
+-- the weights of contacts, where an entry replaces what stood before for its pair of classes, and the thresholds in order
+abbrev pub table_of : History → ContactTable
+table_of [] = no_contacts
+table_of (line ∷ before) =
+    let weighed = with_contact (table_of before) (given_in contact_entry (entry_of Contacts (owner_of before) (meaning_of line))) in
+    with_acceptance weighed (given_in threshold_entry (entry_of Acceptance (owner_of before) (meaning_of line)))
+
 -- A pair that is bonded has no further effect.
 abbrev pub with_pair : List (List ℕ) → ℕ × ℕ → List (List ℕ)
 with_pair bonds pair = if are_bonded bonds pair.0 pair.1 then bonds else with_bond bonds pair.0 pair.1
@@ -297,6 +315,7 @@ draft_of lines =
       world = record {
         shape = shape_in given;
         set = set_of header;
+        table = table_of header;
         positions = positions_of lines;
         bonds = bonds_of (listed_bonds (count_in given) (pairs_of header)) lines;
         labels = said_of_each (labels_of header) (count_in given);

@@ -12,15 +12,15 @@ use Rattle.bond_set.specs.BondSet.{first_unpaired, vector_of}
 use Rattle.bfm_world.specs.Configuration.{IsSound, IsValid, reach_of}
 use Rattle.bfm_world.specs.Draft.{Draft, begun, with_positions, with_bonds, with_fixed_list}
 use Rattle.bfm_lexer.specs.Cutter as cutters
-use Rattle.bfm_commands.specs.History.{History, has_begun, owner_of, given_of, shape_in, count_in, set_of, pairs_of, labels_of, valences_of, fixed_of, said_of_each, fixed_of_each, listed_bonds, with_added, with_removed, string_positions, line_positions, given_in, entry_of, with_vector, with_listed, with_said, with_range, mcs_of, is_first_frame, draft_of, last_whole, frames_of, first_positions, skipped_of, given_as}
-use Rattle.bfm_commands.specs.Causes.{is_box_too_large, some_missing, is_beyond, some_range_beyond, some_fixed_beyond, is_overfull, vector_cause, bond_cause, range_cause, fixed_cause, added_cause, removed_cause, frame_cause, least}
-use Rattle.bfm_commands.specs.Forms.{vector_entry, pair_entry, range_entry, monomers_entry, frame_line}
+use Rattle.bfm_commands.specs.History.{History, has_begun, owner_of, given_of, shape_in, count_in, set_of, pairs_of, labels_of, valences_of, fixed_of, said_of_each, fixed_of_each, listed_bonds, with_added, with_removed, string_positions, line_positions, given_in, entry_of, with_vector, with_listed, with_said, with_range, with_contact, with_acceptance, table_of, mcs_of, is_first_frame, draft_of, last_whole, frames_of, first_positions, skipped_of, given_as}
+use Rattle.bfm_commands.specs.Causes.{is_box_too_large, some_missing, is_beyond, some_range_beyond, some_fixed_beyond, is_overfull, vector_cause, bond_cause, range_cause, fixed_cause, contact_cause, threshold_cause, added_cause, removed_cause, frame_cause, least}
+use Rattle.bfm_commands.specs.Forms.{vector_entry, pair_entry, range_entry, monomers_entry, contact_entry, threshold_entry, frame_line}
 use Rattle.bfm_commands.specs.Meaning.{meaning_of, command, entry, role_of}
 use Rattle.bfm_commands.specs.Placing.{with_line, with_later_line}
 use Rattle.bfm_commands.specs.declared.loaded.Loaded.{Loaded}
 use Rattle.bfm_commands.specs.Verdict.{history_of, first_wrong_of, bytes_in, IsStop}
 use Rattle.bfm_commands.specs.declared.commands.Known.{Known}
-use Rattle.bfm_commands.specs.declared.commands.Known.TheVariants.{Mcs, SetOfBondVectors, Bonds, Attributes, Valence, Fixed, AddBonds, RemoveBonds}
+use Rattle.bfm_commands.specs.declared.commands.Known.TheVariants.{Mcs, SetOfBondVectors, Bonds, Attributes, Valence, Fixed, Contacts, Acceptance, AddBonds, RemoveBonds}
 use Rattle.bfm_commands.specs.declared.owner.Owner.{Owner}
 use Rattle.bfm_commands.specs.declared.owner.Owner.TheVariants.{Command, Unknown}
 use Rattle.bfm_commands.specs.declared.header.Header.{Header}
@@ -53,6 +53,8 @@ entry_fault header Bonds text = bond_cause text
 entry_fault header Attributes text = range_cause GREATEST_LABEL text
 entry_fault header Valence text = range_cause GREATEST_VALENCE text
 entry_fault header Fixed text = fixed_cause text
+entry_fault header Contacts text = contact_cause text
+entry_fault header Acceptance text = threshold_cause header.table.thresholds text
 entry_fault header known text = Some BadLine
 
 -- a header with an entry of a command
@@ -63,6 +65,8 @@ with_entry header owner text = record header {
   labels = with_said header.labels (given_in (λ t. range_entry t GREATEST_LABEL) (entry_of Attributes (Command owner) (entry text)));
   valences = with_said header.valences (given_in (λ t. range_entry t GREATEST_VALENCE) (entry_of Valence (Command owner) (entry text)));
   fixed = with_range header.fixed (given_in monomers_entry (entry_of Fixed (Command owner) (entry text)));
+  table = with_acceptance (with_contact header.table (given_in contact_entry (entry_of Contacts (Command owner) (entry text))))
+      (given_in threshold_entry (entry_of Acceptance (Command owner) (entry text)));
 }
 
 -- an entry names a monomer that is not there
@@ -99,7 +103,7 @@ with_marks draft labels valences fixed = with_fixed_list (with_valences (with_la
 abbrev pub begun_draft : Header → Draft
 begun_draft header =
     let count = count_in header.settings in
-    with_marks (with_bonds (begun (shape_in header.settings) header.set count) (listed_bonds count header.pairs))
+    with_marks (with_bonds (begun (shape_in header.settings) header.set header.table count) (listed_bonds count header.pairs))
     (said_of_each header.labels count) (said_of_each header.valences count) (fixed_of_each header.fixed count)
 
 -- a header is what these lines give
@@ -110,6 +114,7 @@ pub record IsHeader (header : Header) (lines : History) : Type 0 where
   pub labels : header.labels ≡ labels_of lines
   pub valences : header.valences ≡ valences_of lines
   pub fixed : header.fixed ≡ fixed_of lines
+  pub table : header.table ≡ table_of lines
 
 -- Frames.
 
@@ -282,6 +287,7 @@ pub record GivesHeader (known : Known) (rest : List ℕ) (before : History) (sum
   pub labels : summary.header.labels ≡ labels_of before
   pub valences : summary.header.valences ≡ valences_of before
   pub fixed : summary.header.fixed ≡ fixed_of before
+  pub table : summary.header.table ≡ table_of before
 
 -- The summary with one more line of a command that begins a frame or changes bonds, but for the owner.
 pub record GivesFrame (known : Known) (rest : List ℕ) (before : History) (summary : Summary) : Type 0 where

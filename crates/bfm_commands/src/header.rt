@@ -4,18 +4,19 @@ ghost use Rattle.bfm_base.specs.declared.cause.Cause.TheVariants.{TooManyBonds};
 ghost use Rattle.bfm_base.specs.declared.limits.TheConstants.{MOST_MONOMERS, GREATEST_NUMBER, GREATEST_LABEL, GREATEST_VALENCE};
 ghost use Rattle.bfm_geom.specs.Difference.{IsBox};
 ghost use Rattle.bfm_lexer.specs.Kinds.{is_bare};
+ghost use Rattle.contact_table.specs.Contacts.{no_contacts};
 ghost use Rattle.bfm_world.specs.Configuration.{IsSound};
 ghost use Rattle.bfm_world.specs.Draft.{with_bonds};
-ghost use Rattle.bfm_commands.specs.Causes.{vector_cause, bond_cause, some_missing, is_box_too_large, is_beyond, is_overfull};
-ghost use Rattle.bfm_commands.specs.Forms.{vector_entry, pair_entry, value_of};
-ghost use Rattle.bfm_commands.specs.History.{shape_in, count_in, with_pairs, with_vector, with_listed, given_in, given_as, stands, said_of_each, fixed_of_each};
+ghost use Rattle.bfm_commands.specs.Causes.{vector_cause, bond_cause, contact_cause, threshold_cause, some_missing, is_box_too_large, is_beyond, is_overfull};
+ghost use Rattle.bfm_commands.specs.Forms.{vector_entry, pair_entry, contact_entry, threshold_entry, value_of};
+ghost use Rattle.bfm_commands.specs.History.{shape_in, count_in, with_pairs, with_vector, with_listed, with_contact, with_acceptance, given_in, given_as, stands, said_of_each, fixed_of_each};
 ghost use Rattle.bfm_commands.specs.Meaning.{role_of};
 ghost use Rattle.bfm_commands.specs.Reading.{IsFault, value_fault, list_fault, entry_fault, with_entry, begin_fault, begun_draft, names_beyond_in, with_marks, with_labels, with_valences};
 
 use crate::commands::Known;
 use crate::fault::LineFault;
 use crate::fixed::FixedRanges;
-use crate::forms::{pair_entry, value_of, vector_entry};
+use crate::forms::{contact_entry, pair_entry, threshold_entry, value_of, vector_entry};
 use crate::pairs::Pairs;
 use crate::ranges::Ranges;
 use crate::role::Role;
@@ -25,6 +26,7 @@ use bfm_base::limits::{GREATEST_LABEL, GREATEST_VALENCE};
 use bfm_lexer::is_bare;
 use bfm_world::WorldBuilder;
 use bond_set::BondSet;
+use contact_table::{MOST_THRESHOLDS, Table};
 use std::alloc::{AllocError, Global};
 use std::mem;
 
@@ -37,6 +39,7 @@ pub(crate) struct Header {
     pub labels: Ranges<GREATEST_LABEL>,
     pub valences: Ranges<MOST_VALENCE>,
     pub fixed: FixedRanges,
+    pub table: Table,
 }
 
 /// The greatest valence, as a list of ranges takes it.
@@ -45,7 +48,7 @@ const MOST_VALENCE: u32 = GREATEST_VALENCE as u32;
 impl Header {
     /// The header of no line.
     pub fn new(alloc: Global) -> Header
-        ensures { result ≡ record { settings = []; set = []; pairs = []; labels = []; valences = []; fixed = [] } }
+        ensures { result ≡ record { settings = []; set = []; pairs = []; labels = []; valences = []; fixed = []; table = no_contacts } }
     {
         Header {
             settings: Settings::new(alloc),
@@ -54,6 +57,7 @@ impl Header {
             labels: Ranges::new(alloc),
             valences: Ranges::new(alloc),
             fixed: FixedRanges::new(alloc),
+            table: Table::new(),
         }
     }
 
@@ -123,6 +127,31 @@ impl Header {
         Ok(())
     }
 
+    /// Takes the weight of the contacts of two classes, in place of the one that they had.
+    fn take_contact(&mut self, text: &[u8]) -> Result<(), LineFault>
+        ensures taken { OnOk result ((contact_cause text.now ≡ None)
+            × (self.new ≡ record self.old { table = with_contact self.old.table (given_in contact_entry (Some text.now)) })) }
+        ensures refused { IfErr result (λ fault. IsFault fault (contact_cause text.now)) }
+    {
+        let ((a, b), weight) = contact_entry(text)?;
+        self.table.set_weight(a, b, weight);
+        Ok(())
+    }
+
+    /// Takes the next threshold of acceptance, where there are fewer than 1,024.
+    fn take_threshold(&mut self, text: &[u8]) -> Result<(), LineFault>
+        ensures taken { OnOk result ((threshold_cause self.old.table.thresholds text.now ≡ None)
+            × (self.new ≡ record self.old { table = with_acceptance self.old.table (given_in threshold_entry (Some text.now)) })) }
+        ensures refused { IfErr result (λ fault. IsFault fault (threshold_cause self.old.table.thresholds text.now)) }
+    {
+        let threshold = threshold_entry(text)?;
+        if self.table.thresholds() as usize >= MOST_THRESHOLDS {
+            return Err(LineFault::Refused(Cause::OutOfLimit));
+        }
+        self.table.push_threshold(threshold);
+        Ok(())
+    }
+
     /// Takes an entry of a command.
     pub fn take_entry(&mut self, owner: Known, text: &[u8]) -> Result<(), LineFault>
         ensures taken { OnOk result ((entry_fault self.old owner text.now ≡ None) × (self.new ≡ with_entry self.old owner text.now)) }
@@ -134,12 +163,15 @@ impl Header {
             Known::Attributes => self.labels.take(text),
             Known::Valence => self.valences.take(text),
             Known::Fixed => self.fixed.take(text),
+            Known::Contacts => self.take_contact(text),
+            Known::Acceptance => self.take_threshold(text),
             _ => Err(LineFault::Refused(Cause::BadLine)),
         }
     }
 
-    /// The world that the header begins: its box, its set of bond vectors and its bonds, with no
-    /// monomer placed. The header is judged as a whole. The set is taken out of it.
+    /// The world that the header begins: its box, its set of bond vectors, its table of contacts and
+    /// its bonds, with no monomer placed. The header is judged as a whole. The set and the table are
+    /// taken out of it.
     pub fn begin(&mut self, alloc: Global) -> Result<WorldBuilder, LineFault>
         ensures begun { IfOk result (λ builder. (begin_fault self.old ≡ None) × (builder ≡ begun_draft self.old)) }
         ensures some { IfOk result (λ builder. 1 ≤ builder.count) }
@@ -160,7 +192,8 @@ impl Header {
             return Err(LineFault::Refused(Cause::BadMonomer));
         }
         let shape = self.settings.shape();
-        let mut builder = WorldBuilder::new(alloc, shape, set, count)?;
+        let table = mem::replace(&mut self.table, Table::new());
+        let mut builder = WorldBuilder::new(alloc, shape, set, table, count)?;
         join_all(&mut builder, self.pairs.list())?;
         self.mark_all(alloc, &mut builder)?;
         Ok(builder)

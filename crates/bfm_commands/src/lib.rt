@@ -1,9 +1,10 @@
-//! Reads files: the commands of the header, the set of bond vectors, the list of bonds, and frames.
-//! It stands on `bfm_lexer` for lines and numbers, on `bond_set` and on `bfm_world`, whose builder
-//! judges positions and bonds.
+//! Reads files: the commands of the header, the set of bond vectors, the list of bonds, labels and
+//! valences, fixed monomers, the weights of contacts and the thresholds of acceptance, and frames.
+//! It stands on `bfm_lexer` for lines and numbers, on `bond_set`, on `contact_table` and on `bfm_world`,
+//! whose builder judges positions and bonds.
 //! It promises that a `Reader` gives the verdict on the bytes that it was fed, however they were cut:
 //! what an accepted file holds, or its first wrong line and the least cause; any file may be answered
-//! by want of memory. The forms of the grammar that a `Reader` does not use yet are exact as well.
+//! by want of memory.
 #![tactic(auto)]
 
 mod commands;

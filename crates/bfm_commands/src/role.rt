@@ -33,9 +33,11 @@ pub(crate) fn role_of(command: Known) -> Role
         | Known::Bonds
         | Known::Attributes
         | Known::Valence
-        | Known::Fixed => Role::List,
+        | Known::Fixed
+        | Known::Contacts
+        | Known::Acceptance => Role::List,
         Known::Mcs => Role::Frame,
         Known::AddBonds | Known::RemoveBonds => Role::Change,
-        Known::Contacts | Known::Acceptance | Known::Stream | Known::Solid => Role::Unbuilt,
+        Known::Stream | Known::Solid => Role::Unbuilt,
     }
 }

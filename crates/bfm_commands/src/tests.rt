@@ -70,7 +70,7 @@ const REFUSED: [(&str, &str, u64, Cause); 39] = [
     ("!bfm_fixed\n", "262144\n1-262145\n", 3, Cause::OutOfLimit),
     ("!bfm_fixed\n", "2-2\n2-1\n", 3, Cause::BadMonomer),
     ("!bfm_fixed\n1\n", "!bfm_fixed\n", 3, Cause::Repeated),
-    ("!bfm_contacts\n", "", 1, Cause::Unbuilt),
+    ("!bfm_solid\n", "", 1, Cause::Unbuilt),
     ("!add_bonds\n", "", 1, Cause::Misplaced),
     ("!remove_bonds 1\n", "", 1, Cause::BadLine),
     ("!box_x=8\n\n", "", 3, Cause::NoFrame),
@@ -134,6 +134,27 @@ const REFUSED_FRAMES: [(&str, &str, u64, Cause); 43] = [
     (TWO, "!set_of_bondvectors\n2 0 0:32\n-2 0 0:33\n!bonds\n1 2\n!mcs=0\n0 0 0\n4 0 0\n", 15, Cause::BadBond),
 ];
 
+// The same of the commands that give weights of contacts and thresholds of acceptance.
+#[rattlefmt::skip]
+const REFUSED_TABLES: [(&str, &str, u64, Cause); 16] = [
+    ("!bfm_contacts 1\n", "", 1, Cause::BadLine),
+    ("!bfm_contacts\n1 2:3\n", "!bfm_contacts\n", 3, Cause::Repeated),
+    ("!bfm_contacts\n", "1 2\n", 2, Cause::BadLine),
+    ("!bfm_contacts\n", "0 1:1\n", 2, Cause::OutOfLimit),
+    ("!bfm_contacts\n1 15:1\n", "1 16:1\n", 3, Cause::OutOfLimit),
+    ("!bfm_contacts\n1 1:1000\n", "1 1:1001\n", 3, Cause::OutOfLimit),
+    ("!bfm_contacts\n1 1:-1000\n", "1 1:-1001\n", 3, Cause::OutOfLimit),
+    ("!bfm_acceptance=1\n", "", 1, Cause::BadLine),
+    ("!bfm_acceptance\n4294967296\n", "4294967297\n", 3, Cause::OutOfLimit),
+    ("!bfm_acceptance\n", "-1\n", 2, Cause::OutOfLimit),
+    ("!bfm_acceptance\n", "1 2\n", 2, Cause::BadLine),
+    ("!bfm_acceptance\n", "!bfm_contacts\n!bfm_acceptance\n", 3, Cause::Repeated),
+    (ONE, "!mcs=0\n3 3 3\n!bfm_contacts\n", 10, Cause::Misplaced),
+    (ONE, "!mcs=0\n3 3 3\n!bfm_acceptance\n", 10, Cause::Misplaced),
+    (TWO, "!mcs=0\n0 0 0\n!bfm_contacts\n", 10, Cause::FrameShort),
+    (TWO, "!mcs=0\n0 0 0\n!bfm_acceptance\n", 10, Cause::FrameShort),
+];
+
 fn text_of(alloc: Global, first: &str, then: &str) -> Result<String, AllocError> {
     format!(in alloc; "{first}{then}")
 }
@@ -141,7 +162,7 @@ fn text_of(alloc: Global, first: &str, then: &str) -> Result<String, AllocError>
 // The verdict on a file that is fed whole.
 fn read(rt: &impl Abort, alloc: Global, file: &str) -> Result<Loaded, ReadStop> {
     let bytes = file.as_bytes();
-    assert!(rt; bytes.len() <= 1000);
+    assert!(rt; bytes.len() <= 3000);
     let Ok(mut reader) = Reader::new(alloc) else {
         return Err(ReadStop::Memory);
     };
@@ -175,6 +196,18 @@ fn is_refused_at(rt: &impl Abort, alloc: Global, file: &str, line: u64, cause: C
 #[test]
 fn refused_files(rt: HostRuntime) -> Result<(), Fail> {
     for (first, then, line, cause) in REFUSED {
+        let file = text_of(rt.alloc(), first, then)?;
+        assert!(rt;
+            is_refused_at(&rt, rt.alloc(), &file, line, cause),
+            "{file:?}"
+        );
+    }
+    Ok(())
+}
+
+#[test]
+fn refused_tables(rt: HostRuntime) -> Result<(), Fail> {
+    for (first, then, line, cause) in REFUSED_TABLES {
         let file = text_of(rt.alloc(), first, then)?;
         assert!(rt;
             is_refused_at(&rt, rt.alloc(), &file, line, cause),
@@ -286,5 +319,57 @@ fn fixed_monomers(rt: HostRuntime) -> Result<(), Fail> {
         assert_eq!(rt; world.len(), 2);
         assert!(rt; [world.fixed(0), world.fixed(1)] == fixed, "of {file:?}");
     }
+    Ok(())
+}
+
+// What comes behind the commands with a value, the weights of classes 1 and 2 and of 15 with itself,
+// how many thresholds there are, and those of 1 to 4.
+#[rattlefmt::skip]
+const TABLES: [(&str, [i32; 2], u32, [u64; 4]); 4] = [
+    ("!mcs=0\n3 3 3\n", [0, 0], 0, [0, 0, 0, 0]),
+    ("!bfm_contacts\n1 2:-3\n!mcs=0\n3 3 3\n", [-3, 0], 0, [0, 0, 0, 0]),
+    ("!bfm_contacts\n1 2:-3\n15 15:1000\n2 1:4\n!bfm_acceptance\n7\n4294967296\n0\n!mcs=0\n3 3 3\n!mcs=1\n4 3 3\n", [4, 1000], 3, [7, 4_294_967_296, 0, 0]),
+    ("!bfm_acceptance\n# 9\n 5 \n!other\n6\n!bfm_contacts\n!other\n1 2:9\n!mcs=0\n3 3 3\n", [0, 0], 1, [5, 0, 0, 0]),
+];
+
+#[test]
+fn weights_of_contacts_and_thresholds_of_acceptance(rt: HostRuntime) -> Result<(), Fail> {
+    for (then, [other, same], count, thresholds) in TABLES {
+        let file = text_of(rt.alloc(), ONE, then)?;
+        let loaded = read(&rt, rt.alloc(), &file)?;
+        let table = loaded.world.table();
+        assert!(rt;
+            [table.weight(1, 2), table.weight(2, 1)] == [other, other],
+            "of {file:?}"
+        );
+        assert!(rt;
+            [table.weight(15, 15), table.weight(1, 1)] == [same, 0],
+            "of {file:?}"
+        );
+        assert!(rt; table.thresholds() == count, "of {file:?}");
+        let found = [1, 2, 3, 4].map(|delta| table.threshold(delta));
+        assert!(rt; found == thresholds, "of {file:?}");
+    }
+    Ok(())
+}
+
+// A file of one monomer with so many thresholds, from its ninth line on.
+fn with_thresholds(alloc: Global, count: u32) -> Result<String, AllocError> {
+    let mut file = text_of(alloc, ONE, "!bfm_acceptance\n")?;
+    for _ in 0..count {
+        file.push_str("1\n")?;
+    }
+    file.push_str("!mcs=0\n3 3 3\n")?;
+    Ok(file)
+}
+
+#[test]
+fn a_file_may_have_1024_thresholds_and_no_more(rt: HostRuntime) -> Result<(), Fail> {
+    let file = with_thresholds(rt.alloc(), 1_024)?;
+    let loaded = read(&rt, rt.alloc(), &file)?;
+    assert_eq!(rt; loaded.world.table().thresholds(), 1_024);
+    let file = with_thresholds(rt.alloc(), 1_025)?;
+    let stop = read(&rt, rt.alloc(), &file).err();
+    assert!(rt; stop == refused(1_033, Cause::OutOfLimit));
     Ok(())
 }

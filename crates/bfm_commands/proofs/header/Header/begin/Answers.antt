@@ -35,6 +35,6 @@ returns-clause-begun c =
       begin_fault-joined header false c.count-count.result c.in_ok-builder.builder.world.bonds c.list.result.now
           (sym c.is_box_too_large.ensures ∙ c.if-is_box_too_large.false) paired (sym c.some_missing.ensures ∙ c.if-some_missing.false) (sym c.some_beyond.ensures ∙ c.if-some_beyond.false) c.count-count.ensures.value
           (ap (λ (d : Draft). d.world.bonds) c.in_ok-builder.ensures) c.list.ensures.list c.in_ok-join_all.ensures.full,
-      begun_draft-made header c.in_ok-builder.builder c.join_all.new.builder c.mark_all.new.builder c.shape-shape.result c.replace-set.result c.count-count.result c.list.result.now c.in_ok-builder.ensures
-          c.in_ok-join_all.ensures.joined c.in_ok-mark_all.ensures c.shape-shape.ensures.value c.replace-set.ensures.value c.count-count.ensures.value c.list.ensures.list,
+      begun_draft-made header c.in_ok-builder.builder c.join_all.new.builder c.mark_all.new.builder c.shape-shape.result c.replace-set.result c.replace-table.result c.count-count.result c.list.result.now c.in_ok-builder.ensures
+          c.in_ok-join_all.ensures.joined c.in_ok-mark_all.ensures c.shape-shape.ensures.value c.replace-set.ensures.value c.replace-table.ensures.value c.count-count.ensures.value c.list.ensures.list,
     )
