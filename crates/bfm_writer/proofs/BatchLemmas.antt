@@ -8,6 +8,10 @@ use Rattle.bfm_writer.specs.Batch.{TookFirst, Passes}
 pub TookFirst-none : (a : Account) (bytes : List ℕ) → TookFirst a a bytes bytes
 TookFirst-none a bytes = record { first = []; whole = refl; taken = TookAll-none a }
 
+-- nor where what is left is the same in other words
+pub TookFirst-same : (a : Account) (bytes left : List ℕ) → bytes ≡ left → TookFirst a a bytes left
+TookFirst-same a bytes left e = record { first = []; whole = sym e; taken = TookAll-none a }
+
 -- where nothing is left, all is taken
 TookAll-first : (a b : Account) (bytes rest : List ℕ) → TookFirst a b bytes rest → rest ≡ [] → TookAll a b bytes
 TookAll-first a b bytes rest h none =

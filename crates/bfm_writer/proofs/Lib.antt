@@ -2,4 +2,6 @@ mod BatchLemmas
 mod ListingLemmas
 mod RowLemmas
 mod RowExamples
+mod TableExamples
+mod TableLemmas
 pub mod RowPositions

@@ -2,6 +2,7 @@
 use Rattle.std.proofs.Common.{◌≡◌, ◌≢◌, ℕ, zero, suc, ◌+◌, ◌-◌, ◌<◌, ◌++◌, List, [], ◌∷◌, Some, slice_get, drop, codes, decimal, refl, ap, sym, ◌∙◌, subst, append_assoc, arith}
 use Rattle.std.specs.List.{concat, flat_map, range_with_len}
 use Rattle.std.specs.Fmt.{signed_decimal}
+use Rattle.std.proofs.lemmas.Grind.{flat_map-append}
 use Rattle.std.proofs.lemmas.Option.{get_or_from_slice_get}
 use Rattle.bfm_base.specs.declared.place.P3.{P3}
 use Rattle.bond_set.specs.BondSet.{ids_of, vectors_of}
@@ -49,6 +50,12 @@ pub range_with_len-first : (k n : ℕ) → k < n → range_with_len k (n - k) �
 range_with_len-first k n h =
     let e : n - k ≡ suc (n - (k + 1)) = omega arith in
     ap (range_with_len k) e
+
+-- the lines of what the numbers from k to below n give
+pub lines-first : {X : Type 0} (line : X → List ℕ) (f : ℕ → List X) (k n : ℕ) → k < n
+    → flat_map line (flat_map f (range_with_len k (n - k))) ≡ flat_map line (f k) ++ flat_map line (flat_map f (range_with_len (k + 1) (n - (k + 1))))
+lines-first line f k n h =
+    ap (λ l. flat_map line (flat_map f l)) (range_with_len-first k n h) ∙ flat_map-append line (f k) (flat_map f (range_with_len (k + 1) (n - (k + 1))))
 
 -- the text of an entry, and the command before it where that is due
 entries_of-entry : (listing : Listing) (command before entry first : List ℕ) (byte : ℕ) (rest : List ℕ) → entry ≡ first ++ byte ∷ rest
@@ -100,6 +107,11 @@ pub TookPrefix-entries : (a b c : Account) (bytes : List ℕ) (listing : Listing
 TookPrefix-entries a b c bytes listing command before all entries more is h k =
     TookPrefix-next a b c bytes _ before (entries_of listing command entries) (entries_of (behind listing entries) command more) h
     (entries_of-next listing command before all entries more is) k
+
+-- a list whose first line is there
+pub listed-line : (command first : List ℕ) (byte : ℕ) (rest more : List ℕ) → listed command ((first ++ byte ∷ rest) ++ more) ≡ command ++ ((first ++ byte ∷ rest) ++ more)
+listed-line command [] byte rest more = refl
+listed-line command (b ∷ first) byte rest more = refl
 
 -- a list whose first entry is there
 listed-some : (command first : List ℕ) (byte : ℕ) (rest end more : List ℕ)

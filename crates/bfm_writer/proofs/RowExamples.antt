@@ -2,6 +2,7 @@
 use Rattle.std.proofs.Common.{◌≡◌, ℕ, List, [], ◌∷◌, ℤ, pos, negsuc, true, false, refl, map}
 use Rattle.bfm_base.specs.declared.place.P3.{P3}
 use Rattle.bfm_world.specs.Configuration.{Configuration}
+use Rattle.contact_table.specs.Contacts.{no_contacts}
 use Rattle.bfm_writer.specs.Rows.{rows_of}
 
 at : ℤ → P3
@@ -12,6 +13,7 @@ world_of : List P3 → List (List ℕ) → Configuration
 world_of positions bonds = record {
   shape = record { sides = 8 ∷ 8 ∷ 8 ∷ []; periodic = true ∷ true ∷ true ∷ [] };
   set = (at (pos 2), 32) ∷ (at (negsuc 1), 33) ∷ [];
+  table = no_contacts;
   positions = positions;
   bonds = bonds;
   labels = map (λ _. 0) positions;

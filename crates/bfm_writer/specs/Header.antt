@@ -1,10 +1,13 @@
 -- The text of a header. Monomers are counted from 0 here and from 1 in a text.
-use Rattle.std.specs.Prelude.{ℕ, ◌+◌, Bool, ◌&&◌, not, nat_eq, nat_lt, if◌then◌else◌, List, [], ◌∷◌, ◌++◌, length, codes, decimal, is_some}
+use Rattle.std.specs.Prelude.{ℕ, ◌+◌, ℤ, Bool, ◌&&◌, not, nat_eq, nat_lt, if◌then◌else◌, List, [], ◌∷◌, ◌++◌, length, codes, decimal, is_some}
+use Rattle.std.specs.Fmt.{signed_decimal}
 use Rattle.std.specs.List.{concat, flat_map, range_with_len}
 use Rattle.bfm_base.specs.declared.place.P3.{P3}
 use Rattle.bfm_geom.specs.Difference.{side_of, is_periodic}
 use Rattle.bfm_world.specs.Bonds.{neighbours_of}
 use Rattle.bfm_world.specs.Configuration.{Configuration, label_of, valence_of, is_fixed}
+use Rattle.contact_table.specs.Contacts.{ContactTable}
+use Rattle.contact_table.specs.Entries.{entries_of}
 use Rattle.bfm_writer.specs.Rows.{continuation}
 use Rattle.bfm_writer.specs.Text.{bond_line, position_text}
 
@@ -94,6 +97,25 @@ fixed_text w = listed (codes "!bfm_fixed\n") (flat_map (fixed_entry w) (monomers
 abbrev pub marks_text : Configuration → List ℕ
 marks_text w = labels_text w ++ (valences_text w ++ fixed_text w)
 
+-- two classes and the weight of their contacts
+abbrev pub contact_line : (ℕ × ℕ) × ℤ → List ℕ
+contact_line e = concat (decimal e.0.0 ∷ codes " " ∷ decimal e.0.1 ∷ codes ":" ∷ signed_decimal e.1 ∷ codes "\n" ∷ [])
+
+-- each pair of classes that does not weigh 0
+abbrev pub contacts_text : ContactTable → List ℕ
+contacts_text table = listed (codes "!bfm_contacts\n") (flat_map contact_line (entries_of table))
+
+abbrev pub threshold_line : ℕ → List ℕ
+threshold_line threshold = decimal threshold ++ codes "\n"
+
+-- the thresholds of acceptance, from that of 1 on
+abbrev pub acceptance_text : ContactTable → List ℕ
+acceptance_text table = listed (codes "!bfm_acceptance\n") (flat_map threshold_line table.thresholds)
+
+-- what contacts weigh, and which changes of the sum of all weights are accepted
+abbrev pub table_text : ContactTable → List ℕ
+table_text table = contacts_text table ++ acceptance_text table
+
 -- the number of monomers and the box, and then each list that has entries
 abbrev pub header_text : Configuration → List ℕ
-header_text w = values_text w ++ (set_text w ++ (bonds_text w ++ marks_text w))
+header_text w = values_text w ++ (set_text w ++ (bonds_text w ++ (marks_text w ++ table_text w.table)))

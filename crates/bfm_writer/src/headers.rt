@@ -7,6 +7,7 @@ ghost use Rattle.bfm_writer.specs.Rows.{continuation};
 ghost use Rattle.bfm_writer.specs.Listing.{behind, command_of, entries_of, mark_of};
 
 use crate::batch::Batch;
+use crate::contacts::write_table;
 use crate::frames::{continuation, write_position};
 use crate::groups::write_bond;
 use crate::listing::Listing;
@@ -24,8 +25,10 @@ enum Mark {
 
 /// Writes the header of a world: the number of monomers, the box, and, each below its command where
 /// it has entries, the set of bond vectors, the bonds that the lines of a frame of the world do not
-/// show, the labels and the valences that are not 0, and the monomers that are fixed. Where it answers `Failed`, a call of the sink
-/// failed, its count of faults rose, and it took a prefix of the text. The sink is not flushed.
+/// show, the labels and the valences that are not 0, the monomers that are fixed, the pairs of
+/// classes whose contacts do not weigh 0, and the thresholds of acceptance. Where it answers
+/// `Failed`, a call of the sink failed, its count of faults rose, and it took a prefix of the text.
+/// The sink is not flushed.
 pub fn header<S: Sink>(world: &World, sink: &mut S) -> Result<(), Failed>
     ensures { Sends result (S.account sink.old) (S.account sink.new) (header_text world.now) }
 {
@@ -34,6 +37,7 @@ pub fn header<S: Sink>(world: &World, sink: &mut S) -> Result<(), Failed>
     write_set(world, &mut batch, sink)?;
     write_bonds(world, &mut batch, sink)?;
     write_all_marks(world, &mut batch, sink)?;
+    write_table(world.table(), &mut batch, sink)?;
     batch.flush(sink)
 }
 

@@ -2,10 +2,13 @@ ghost use Rattle.std.specs.Prelude.{◌^◌, ◌≤◌, length};
 ghost use Rattle.bfm_geom.specs.Difference.{IsBox};
 
 use crate::{group, header};
-use bfm_base::limits::{GREATEST_LABEL, GREATEST_VALENCE};
+use bfm_base::limits::{
+    GREATEST_CLASS, GREATEST_LABEL, GREATEST_THRESHOLD, GREATEST_VALENCE, GREATEST_WEIGHT,
+};
 use bfm_base::{MemSink, P3, Shape};
 use bfm_world::{World, WorldBuilder};
 use bond_set::BondSet;
+use contact_table::Table;
 use std::alloc::Global;
 use std::process::Abort;
 use std::test::Fail;
@@ -53,7 +56,7 @@ fn marked_world_of(
     requires few { length places.now ≤ 2 ^ 18 }
 {
     set.finish()?;
-    let mut builder = WorldBuilder::new(alloc, shape, set, places.len() as u32)?;
+    let mut builder = WorldBuilder::new(alloc, shape, set, Table::new(), places.len() as u32)?;
     for (monomer, label, valence, fixed) in marks {
         assert!(rt; *monomer < builder.count());
         assert!(rt; *label <= GREATEST_LABEL && *valence <= GREATEST_VALENCE);
@@ -212,5 +215,65 @@ fn a_header_has_the_usual_set_in_its_order(rt: HostRuntime) -> Result<(), Fail> 
     let mut short = MemSink::new(rt.alloc(), 95, 50, &[])?;
     assert!(rt; header(&world, &mut short).is_err());
     assert!(rt; sink.bytes().starts_with(short.bytes()) && short.bytes().len() == 95);
+    Ok(())
+}
+
+/// The table in which these pairs were weighed and to which these thresholds were added, in turn.
+fn table_of(rt: &impl Abort, weights: &[(u8, u8, i32)], thresholds: &[u64]) -> Table {
+    let mut table = Table::new();
+    for (a, b, weight) in weights {
+        assert!(rt; 1 <= *a && *a <= GREATEST_CLASS && 1 <= *b && *b <= GREATEST_CLASS);
+        assert!(rt; u64::from(weight.unsigned_abs()) <= GREATEST_WEIGHT);
+        table.set_weight(*a, *b, *weight);
+    }
+    for threshold in thresholds {
+        assert!(rt; *threshold <= GREATEST_THRESHOLD);
+        assert!(rt; table.push_threshold(*threshold));
+    }
+    table
+}
+
+/// The world of two monomers without bonds, the second of which is fixed, with this table.
+fn weighed_world_of(alloc: Global, table: Table) -> Result<World, Fail> {
+    let set = BondSet::new(alloc);
+    set.finish()?;
+    let mut builder = WorldBuilder::new(alloc, BOX, set, table, 2)?;
+    builder.fix(1);
+    builder.place(P3 { x: 0, y: 0, z: 0 })?;
+    builder.place(P3 { x: 4, y: 0, z: 0 })?;
+    Ok(builder.finish())
+}
+
+const CONTACTS_TEXT: &str = "!bfm_contacts\n1 1:1\n1 2:-3\n15 15:1000\n";
+
+const ACCEPTANCE_TEXT: &str = "!bfm_acceptance\n3122475825\n4294967296\n";
+
+// (weights, thresholds, list of the contacts, list of the thresholds)
+#[rattlefmt::skip]
+const TABLES: [(&[(u8, u8, i32)], &[u64], &str, &str); 7] = [
+    (&[], &[], "", ""),
+    // in another order of the pairs and within them
+    (&[(15, 15, 1_000), (2, 1, -3), (1, 1, 1)], &[3_122_475_825, 4_294_967_296], CONTACTS_TEXT, ACCEPTANCE_TEXT),
+    (&[(2, 1, -3), (1, 1, 1), (15, 15, 1_000)], &[], CONTACTS_TEXT, ""),
+    (&[], &[3_122_475_825, 4_294_967_296], "", ACCEPTANCE_TEXT),
+    // of several weights of a pair the last counts, and 0 is not listed
+    (&[(7, 3, 5), (14, 15, -1_000), (3, 7, 0)], &[0], "!bfm_contacts\n14 15:-1000\n", "!bfm_acceptance\n0\n"),
+    (&[(3, 7, 5), (7, 3, 0)], &[], "", ""),
+    // thresholds stay in their order, and equal ones stand as often as they were added
+    (&[(9, 10, 2), (10, 2, 1)], &[7, 0, 7], "!bfm_contacts\n2 10:1\n9 10:2\n", "!bfm_acceptance\n7\n0\n7\n"),
+];
+
+#[test]
+fn headers_of_tables(rt: HostRuntime) -> Result<(), Fail> {
+    for (weights, thresholds, contacts, acceptance) in TABLES {
+        let table = table_of(&rt, weights, thresholds);
+        let world = weighed_world_of(rt.alloc(), table)?;
+        let mut sink = MemSink::new(rt.alloc(), 300, 7, &[])?;
+        assert!(rt; header(&world, &mut sink).is_ok());
+        let text = format!(in rt.alloc();
+            "!number_of_monomers=2\n{BOX_TEXT}!bfm_fixed\n2\n{contacts}{acceptance}"
+        )?;
+        assert!(rt; sink.bytes() == text.as_bytes(), "{text}");
+    }
     Ok(())
 }
