@@ -5,6 +5,7 @@ pub mod PartsRun
 pub mod PartsSweeps
 pub mod ReadBackBonded
 pub mod ReadBackBonds
+pub mod ReadBackContacts
 pub mod ReadBackEach
 pub mod ReadBackEntries
 pub mod ReadBackFile

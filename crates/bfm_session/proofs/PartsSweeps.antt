@@ -1,9 +1,10 @@
 -- Sweeps and groups of a run in two parts.
 use Rattle.std.proofs.Common.{◌≡◌, ℕ, zero, suc, ◌+◌, ◌*◌, Bool, true, false, cond, [], ◌++◌, length, refl, sym, ap, ◌∙◌, append_assoc, append-nil, arith}
 use Rattle.bfm_base.specs.declared.place.Dir.{Dir}
-use Rattle.bfm_world.specs.Configuration.{Configuration, is_legal, moved}
+use Rattle.bfm_world.specs.Acceptance.{makes_move}
+use Rattle.bfm_world.specs.Configuration.{Configuration, moved}
 use Rattle.bfm_writer.specs.Text.{group_text}
-use Rattle.sweep_run.specs.Sweep.{Progress, attempted, after_attempts, swept, after_sweeps, monomer_of, direction_of, begun_with}
+use Rattle.sweep_run.specs.Sweep.{Progress, attempted, after_attempts, swept, after_sweeps, monomer_of, direction_of, acceptance_word, begun_with}
 use Rattle.sweep_run.proofs.SweepLemmas.{after_sweeps-add}
 use Rattle.bfm_session.specs.Running.{groups_text}
 
@@ -13,20 +14,21 @@ use Rattle.bfm_session.specs.Running.{groups_text}
 abbrev counted : ℕ → Progress → Progress
 counted before run = record { world = run.world; accepted = before + run.accepted }
 
-by_legal : (legal : Bool) (world : Configuration) (before : ℕ) (run : Progress)
-    → cond legal (record { world = world; accepted = before + run.accepted + 1 }) (counted before run) ≡ counted before (cond legal (record { world = world; accepted = run.accepted + 1 }) run)
-by_legal true world before run = let same : before + run.accepted + 1 ≡ before + (run.accepted + 1) = omega arith in ap (λ n. record { world = world; accepted = n }) same
-by_legal false world before run = refl
+by_move : (made : Bool) (world : Configuration) (before : ℕ) (run : Progress)
+    → cond made (record { world = world; accepted = before + run.accepted + 1 }) (counted before run) ≡ counted before (cond made (record { world = world; accepted = run.accepted + 1 }) run)
+by_move true world before run = let same : before + run.accepted + 1 ≡ before + (run.accepted + 1) = omega arith in ap (λ n. record { world = world; accepted = n }) same
+by_move false world before run = refl
 
-attempted-counted : (before : ℕ) (run : Progress) (i : ℕ) (d : Dir) → attempted (counted before run) i d ≡ counted before (attempted run i d)
-attempted-counted before run i d = by_legal (is_legal run.world i d) (moved run.world i d) before run
+attempted-counted : (before : ℕ) (run : Progress) (i : ℕ) (d : Dir) (word : ℕ) → attempted (counted before run) i d word ≡ counted before (attempted run i d word)
+attempted-counted before run i d word = by_move (makes_move run.world i d word) (moved run.world i d) before run
 
 after_attempts-counted : (n seed first count before : ℕ) (run : Progress) → after_attempts n seed first count (counted before run) ≡ counted before (after_attempts n seed first count run)
 after_attempts-counted n seed first zero before run = refl
 after_attempts-counted n seed first (suc count) before run =
     let i = monomer_of n seed first in
     let d = direction_of seed first in
-    ap (after_attempts n seed (first + 1) count) (attempted-counted before run i d) ∙ after_attempts-counted n seed (first + 1) count before (attempted run i d)
+    let word = acceptance_word seed first in
+    ap (after_attempts n seed (first + 1) count) (attempted-counted before run i d word) ∙ after_attempts-counted n seed (first + 1) count before (attempted run i d word)
 
 after_sweeps-counted : (seed t count before : ℕ) (run : Progress) → after_sweeps seed t count (counted before run) ≡ counted before (after_sweeps seed t count run)
 after_sweeps-counted seed t zero before run = refl

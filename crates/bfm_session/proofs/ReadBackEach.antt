@@ -6,16 +6,18 @@ use Rattle.bfm_base.specs.declared.limits.TheConstants.{GREATEST_LABEL, GREATEST
 use Rattle.bfm_geom.specs.Difference.{side_of, is_periodic}
 use Rattle.bond_set.specs.BondSet.{IsBondSet}
 use Rattle.bfm_world.specs.Configuration.{Configuration, IsValid, reach_of, label_of, valence_of}
+use Rattle.contact_table.specs.Entries.{entries_of}
 use Rattle.bfm_writer.specs.Rows.{Row, rows_of}
 use Rattle.bfm_writer.specs.Header.{values_of, periodic_value}
 use Rattle.bfm_commands.specs.declared.commands.Known.{Known}
-use Rattle.bfm_commands.specs.declared.commands.Known.TheVariants.{NumberOfMonomers, BoxX, BoxY, BoxZ, PeriodicX, PeriodicY, PeriodicZ, SetOfBondVectors, Bonds, Attributes, Valence, Fixed, Mcs}
+use Rattle.bfm_commands.specs.declared.commands.Known.TheVariants.{NumberOfMonomers, BoxX, BoxY, BoxZ, PeriodicX, PeriodicY, PeriodicZ, SetOfBondVectors, Bonds, Attributes, Valence, Fixed, Contacts, Acceptance, Mcs}
 use Rattle.bfm_session.proofs.ReadBackLines.{IsRow, each-append, each-map}
-use Rattle.bfm_session.proofs.ReadBackRows.{value_row, vector_row, pair_row, mark_row, number_row, frame_row, listed_rows, listed_pairs, listed_marks, listed_fixed, mark_rows, list_rows, header_rows, frame_rows, world_rows}
-use Rattle.bfm_session.proofs.ReadBackEntries.{IsShort-extent}
+use Rattle.bfm_session.proofs.ReadBackRows.{value_row, vector_row, pair_row, mark_row, number_row, contact_row, threshold_row, frame_row, listed_rows, listed_pairs, listed_marks, listed_fixed, mark_rows, table_rows, list_rows, header_rows, frame_rows, world_rows}
+use Rattle.bfm_session.proofs.ReadBackEntries.{IsShort-extent, IsContact}
 use Rattle.bfm_session.proofs.ReadBackMeanings.{command_row, IsRow-command, IsRow-assigned}
-use Rattle.bfm_session.proofs.ReadBackPlain.{IsRow-vector, IsRow-pair, IsRow-mark, IsRow-number, IsRow-frame}
+use Rattle.bfm_session.proofs.ReadBackPlain.{IsRow-vector, IsRow-pair, IsRow-mark, IsRow-number, IsRow-contact, IsRow-threshold, IsRow-frame}
 use Rattle.bfm_session.proofs.ReadBackListed.{IsPair, IsMark, vector_short}
+use Rattle.bfm_session.proofs.ReadBackContacts.{each_contact, each_threshold}
 use Rattle.bfm_session.proofs.ReadBackWorld.{each_IsPair, each_label, each_valence, each_fixed}
 use Rattle.bfm_session.proofs.ReadBackRowsOf.{IsGoodRow, each_good, size_of-rows, each_short}
 
@@ -70,10 +72,19 @@ each_mark_row w ok =
     (each-append IsRow (listed_rows (command_row Valence) (map mark_row (listed_marks (valence_of w) w))) _ (each_of_list Valence _ (each_valence_row w ok))
     (each_of_list Fixed _ (each_fixed_row w ok)))
 
+each_table_row : (w : Configuration) → IsValid w → AllByRecursion IsRow (table_rows w.table)
+each_table_row w ok =
+    each-append IsRow (listed_rows (command_row Contacts) (map contact_row (entries_of w.table))) _
+    (each_of_list Contacts _
+    (each-map IsContact IsRow contact_row (entries_of w.table) (each_contact w.table ok.table)
+    (λ e is. IsRow-contact e.0.0 e.0.1 e.1 (omega (arith, is.first)) (omega (arith, is.second)) (omega (arith, is.weight)))))
+    (each_of_list Acceptance _ (each-map (λ t. t ≤ 2 ^ 32) IsRow threshold_row w.table.thresholds (each_threshold w.table ok.table) (λ t l. IsRow-threshold t (omega (arith, l)))))
+
 each_list_row : (w : Configuration) → IsValid w → AllByRecursion IsRow (list_rows w)
 each_list_row w ok =
     each-append IsRow (listed_rows (command_row SetOfBondVectors) (map vector_row w.set)) _ (each_of_list SetOfBondVectors _ (each_vector w.set [] w.set ok.set refl))
-    (each-append IsRow (listed_rows (command_row Bonds) (map pair_row (listed_pairs w))) (mark_rows w) (each_of_list Bonds _ (each_pair_row w ok)) (each_mark_row w ok))
+    (each-append IsRow (listed_rows (command_row Bonds) (map pair_row (listed_pairs w))) (mark_rows w ++ table_rows w.table) (each_of_list Bonds _ (each_pair_row w ok))
+    (each-append IsRow (mark_rows w) (table_rows w.table) (each_mark_row w ok) (each_table_row w ok)))
 
 -- The rows of the frame.
 

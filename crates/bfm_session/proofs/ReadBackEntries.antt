@@ -1,16 +1,17 @@
 -- The rows that are written are read back as the forms that they were written by, with the same numbers.
-use Rattle.std.proofs.Common.{◌≡◌, ◌≢◌, ℕ, ◌+◌, ◌-◌, ◌^◌, ◌<◌, ◌≤◌, true, false, nat_eq, nat_lt, nat_le, List, [], ◌∷◌, ◌++◌, Some, Ok, pos, nat_abs, decimal, refl, ap, ◌∙◌, append_assoc, arith}
+use Rattle.std.proofs.Common.{◌≡◌, ◌≢◌, ℕ, ◌+◌, ◌-◌, ◌^◌, ◌<◌, ◌≤◌, true, false, nat_eq, nat_lt, nat_le, List, [], ◌∷◌, ◌++◌, Some, Ok, ℤ, pos, nat_abs, unsigned_abs, decimal, refl, ap, ◌∙◌, append_assoc, arith}
 use Rattle.std.specs.Fmt.{signed_decimal}
 use Rattle.std.proofs.lemmas.Bool.Decides.{nat_tests}
 use Rattle.bfm_base.specs.Place.{extent_of}
 use Rattle.bfm_base.specs.declared.place.P3.{P3}
+use Rattle.contact_table.specs.Contacts.{IsClass}
 use Rattle.bfm_lexer.specs.Cursor.{ends}
 use Rattle.bfm_writer.specs.Rows.{Row}
 use Rattle.bfm_writer.specs.Text.{position_text, ids_text}
 use Rattle.bfm_commands.specs.declared.forms.Range.{Range}
-use Rattle.bfm_commands.specs.Forms.{value_number, vector_numbers, pair_numbers, single_numbers, range_numbers, lone_pair, monomers_numbers, frame_numbers, string_of, monomer_of, vector_entry, pair_entry, range_entry, monomers_entry, frame_line}
+use Rattle.bfm_commands.specs.Forms.{value_number, vector_numbers, pair_numbers, single_numbers, range_numbers, lone_pair, monomers_numbers, contact_numbers, frame_numbers, string_of, monomer_of, vector_entry, pair_entry, range_entry, monomers_entry, contact_entry, threshold_entry, frame_line}
 use Rattle.bfm_session.proofs.ReadBackNumbers.{Starts-signed, Starts-spaced, Starts-alone, Starts-spaced_alone, behind_mark-here, number_field-back, lone_number-back, number_before-back}
-use Rattle.bfm_session.proofs.ReadBackRows.{vector_row, pair_row, mark_row, number_row, frame_row}
+use Rattle.bfm_session.proofs.ReadBackRows.{vector_row, pair_row, mark_row, number_row, contact_row, threshold_row, frame_row}
 
 -- `=value`
 pub value_number-back : (n : ℕ) → n < 10 ^ 64 → value_number (61 ∷ decimal n) ≡ Some (pos n)
@@ -110,6 +111,40 @@ unfolding monomers_entry
 monomers_entry-back i few =
     let ordered : nat_lt i i ≡ false = grind (arith, nat_tests) in
     rw (monomers_numbers-back i (omega arith), monomer_of-back i few, ordered) refl
+
+-- `a b:w`
+contact_numbers-back : (a b : ℕ) (w : ℤ) → a < 10 ^ 64 → b < 10 ^ 64 → nat_abs w < 10 ^ 64 → contact_numbers (contact_row ((a, b), w)) ≡ Some ((pos a, pos b), w)
+unfolding contact_numbers
+contact_numbers-back a b w small_a small_b small_w =
+    let rest = 32 ∷ (decimal b ++ 58 ∷ signed_decimal w) in
+    let first = number_field-back (decimal a ++ rest) (pos a) rest (Starts-signed (pos a) rest small_a) refl in
+    let second = number_before-back 58 rest (pos b) (signed_decimal w) refl refl (Starts-spaced (pos b) (58 ∷ signed_decimal w) small_b) in
+    let last = lone_number-back (signed_decimal w) w [] (Starts-alone w small_w) refl in
+    rw (first, second, last) refl
+
+-- two classes, and a weight within its limit
+pub record IsContact (e : (ℕ × ℕ) × ℤ) : Type 0 where
+  pub first : IsClass e.0.0
+  pub second : IsClass e.0.1
+  pub weight : unsigned_abs e.1 ≤ 1000
+
+pub contact_entry-back : (e : (ℕ × ℕ) × ℤ) → IsContact e → contact_entry (contact_row e) ≡ Ok e
+unfolding contact_entry
+contact_entry-back e is =
+    let a_low : nat_le 1 e.0.0 ≡ true = grind (arith, nat_tests, is.first) in
+    let a_high : nat_le e.0.0 15 ≡ true = grind (arith, nat_tests, is.first) in
+    let b_low : nat_le 1 e.0.1 ≡ true = grind (arith, nat_tests, is.second) in
+    let b_high : nat_le e.0.1 15 ≡ true = grind (arith, nat_tests, is.second) in
+    let within : nat_le (unsigned_abs e.1) 1000 ≡ true = grind (arith, nat_tests, is.weight) in
+    rw (contact_numbers-back e.0.0 e.0.1 e.1 (omega (arith, is.first)) (omega (arith, is.second)) (omega (arith, is.weight)), a_low, a_high, b_low, b_high, within) refl
+
+-- `t`
+pub threshold_entry-back : (t : ℕ) → t ≤ 2 ^ 32 → threshold_entry (threshold_row t) ≡ Ok t
+unfolding threshold_entry
+threshold_entry-back t most =
+    let low : nat_le 0 t ≡ true = grind (arith, nat_tests) in
+    let high : nat_le t (2 ^ 32) ≡ true = grind (arith, nat_tests) in
+    rw (lone_number-back (decimal t) (pos t) [] (Starts-alone (pos t) (omega arith)) refl, low, high) refl
 
 -- `x y z` and the string of identifiers
 string_of-ids : (ids : List ℕ) → string_of (ids_text ids) ≡ Some ids

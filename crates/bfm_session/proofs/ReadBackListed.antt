@@ -9,6 +9,7 @@ use Rattle.bfm_base.specs.declared.place.P3.{P3}
 use Rattle.bfm_base.specs.declared.limits.TheConstants.{GREATEST_LABEL, GREATEST_VALENCE}
 use Rattle.bond_set.specs.BondSet.{is_bond_vector, is_identifier, IsBondSet, refusal_of}
 use Rattle.bond_set.proofs.PairLemmas.{extent_of-bond_vector}
+use Rattle.contact_table.specs.Contacts.{no_contacts}
 use Rattle.bfm_commands.specs.History.{set_of, with_vector, with_listed, with_said, with_range}
 use Rattle.bfm_commands.specs.Causes.{entered}
 use Rattle.bfm_commands.specs.declared.commands.Known.TheVariants.{SetOfBondVectors, Bonds, Attributes, Valence, Fixed}
@@ -27,25 +28,25 @@ use Rattle.bfm_session.proofs.ReadBackLists.{Reads-entry, one_of}
 -- What a header says as far as it has come, by the last command, the commands, and a list.
 
 abbrev pub set_said : Owner → List Given → List (P3 × ℕ) → Said
-set_said owner given set = record { owner = owner; given = given; set = set; pairs = []; labels = []; valences = []; fixed = [] }
+set_said owner given set = record { owner = owner; given = given; set = set; pairs = []; labels = []; valences = []; fixed = []; table = no_contacts }
 
 abbrev pub pairs_said : List (P3 × ℕ) → Owner → List Given → List (ℕ × ℕ) → Said
-pairs_said set owner given pairs = record { owner = owner; given = given; set = set; pairs = pairs; labels = []; valences = []; fixed = [] }
+pairs_said set owner given pairs = record { owner = owner; given = given; set = set; pairs = pairs; labels = []; valences = []; fixed = []; table = no_contacts }
 
 -- what is said of single monomers
 abbrev pub each_single : List (ℕ × ℕ) → List (Range × ℕ)
 each_single marks = map (λ m. (single m.0, m.1)) marks
 
 abbrev pub labels_said : List (P3 × ℕ) → List (ℕ × ℕ) → Owner → List Given → List (ℕ × ℕ) → Said
-labels_said set pairs owner given labels = record { owner = owner; given = given; set = set; pairs = pairs; labels = each_single labels; valences = []; fixed = [] }
+labels_said set pairs owner given labels = record { owner = owner; given = given; set = set; pairs = pairs; labels = each_single labels; valences = []; fixed = []; table = no_contacts }
 
 abbrev pub valences_said : List (P3 × ℕ) → List (ℕ × ℕ) → List (ℕ × ℕ) → Owner → List Given → List (ℕ × ℕ) → Said
 valences_said set pairs labels owner given valences =
-    record { owner = owner; given = given; set = set; pairs = pairs; labels = each_single labels; valences = each_single valences; fixed = [] }
+    record { owner = owner; given = given; set = set; pairs = pairs; labels = each_single labels; valences = each_single valences; fixed = []; table = no_contacts }
 
 abbrev pub fixed_said : List (P3 × ℕ) → List (ℕ × ℕ) → List (ℕ × ℕ) → List (ℕ × ℕ) → Owner → List Given → List ℕ → Said
 fixed_said set pairs labels valences owner given fixed =
-    record { owner = owner; given = given; set = set; pairs = pairs; labels = each_single labels; valences = each_single valences; fixed = map single fixed }
+    record { owner = owner; given = given; set = set; pairs = pairs; labels = each_single labels; valences = each_single valences; fixed = map single fixed; table = no_contacts }
 
 -- One entry of each list.
 

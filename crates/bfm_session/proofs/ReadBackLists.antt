@@ -10,7 +10,7 @@ use Rattle.bfm_commands.specs.Causes.{known_cause, entry_cause, meaning_cause, c
 use Rattle.bfm_commands.specs.declared.commands.Known.{Known}
 use Rattle.bfm_commands.specs.declared.owner.Owner.{Owner}
 use Rattle.bfm_commands.specs.declared.owner.Owner.TheVariants.{Command}
-use Rattle.bfm_commands.specs.declared.commands.Known.TheVariants.{NumberOfMonomers, BoxX, BoxY, BoxZ, PeriodicX, PeriodicY, PeriodicZ, SetOfBondVectors, Bonds, Attributes, Valence, Fixed}
+use Rattle.bfm_commands.specs.declared.commands.Known.TheVariants.{NumberOfMonomers, BoxX, BoxY, BoxZ, PeriodicX, PeriodicY, PeriodicZ, SetOfBondVectors, Bonds, Attributes, Valence, Fixed, Contacts, Acceptance}
 use Rattle.bfm_commands.specs.declared.settings.Given.{Given}
 use Rattle.bfm_commands.specs.History.{is_same}
 use Rattle.bfm_session.proofs.ReadBackLines.{IsRow, is_long-row}
@@ -41,6 +41,8 @@ pub data IsListing : Known → Type 0 where
   label_list : IsListing Attributes
   valence_list : IsListing Valence
   fixed_list : IsListing Fixed
+  contact_list : IsListing Contacts
+  threshold_list : IsListing Acceptance
 
 -- a value in its range
 record IsGood (rest : List ℕ) (least greatest n : ℕ) : Type 0 where
@@ -65,6 +67,8 @@ list_cause before known bond_list none new = rw (none, new) refl
 list_cause before known label_list none new = rw (none, new) refl
 list_cause before known valence_list none new = rw (none, new) refl
 list_cause before known fixed_list none new = rw (none, new) refl
+list_cause before known contact_list none new = rw (none, new) refl
+list_cause before known threshold_list none new = rw (none, new) refl
 
 -- what they give
 value_gives : (known : Known) (least greatest n : ℕ) (rest : List ℕ) → IsValued known least greatest → value_number rest ≡ Some (pos n)
@@ -92,6 +96,8 @@ list_starts known bond_list = refl
 list_starts known label_list = refl
 list_starts known valence_list = refl
 list_starts known fixed_list = refl
+list_starts known contact_list = refl
+list_starts known threshold_list = refl
 
 -- what is said with one more value
 abbrev pub said_value : Known → ℕ → Said → Said

@@ -1,12 +1,12 @@
 -- What is written of a world are rows of plain bytes, none too long.
-use Rattle.std.proofs.Common.{◌≡◌, ℕ, ◌+◌, ◌^◌, ◌<◌, ◌≤◌, true, List, [], ◌∷◌, ◌++◌, length, decimal, refl, length-append, arith}
+use Rattle.std.proofs.Common.{◌≡◌, ℕ, ◌+◌, ◌^◌, ◌<◌, ◌≤◌, true, List, [], ◌∷◌, ◌++◌, length, ℤ, nat_abs, decimal, refl, length-append, arith}
 use Rattle.std.specs.Fmt.{signed_decimal}
 use Rattle.std.specs.List.{list_all}
 use Rattle.bfm_base.specs.declared.place.P3.{P3}
 use Rattle.bfm_writer.specs.Rows.{Row}
 use Rattle.bfm_writer.specs.Text.{position_text, ids_text}
 use Rattle.bfm_session.proofs.ReadBackLines.{is_plain, IsRow, plain-append, plain-decimal, plain-signed, length-decimal, length-signed}
-use Rattle.bfm_session.proofs.ReadBackRows.{vector_row, pair_row, mark_row, number_row, frame_row}
+use Rattle.bfm_session.proofs.ReadBackRows.{vector_row, pair_row, mark_row, number_row, contact_row, threshold_row, frame_row}
 use Rattle.bfm_session.proofs.ReadBackEntries.{IsShort}
 use Rattle.bfm_session.proofs.ReadBackMeanings.{begins_number, begins_number-append, begins_number-decimal, begins_number-signed}
 
@@ -51,6 +51,16 @@ IsRow-mark i t small_i small_t =
 pub IsRow-number : (i : ℕ) → i + 1 < 10 ^ 64 → IsRow (number_row i)
 IsRow-number i small = IsRow-plain 64 _ (IsPlain-decimal (i + 1) small) (omega arith)
 
+pub IsRow-contact : (a b : ℕ) (w : ℤ) → a < 10 ^ 64 → b < 10 ^ 64 → nat_abs w < 10 ^ 64 → IsRow (contact_row ((a, b), w))
+IsRow-contact a b w small_a small_b small_w =
+    let weight : IsPlain 65 (signed_decimal w) = record { bytes = plain-signed w small_w; few = length-signed w small_w } in
+    let mark : IsPlain 1 (58 ∷ []) = record { bytes = refl; few = omega arith } in
+    IsRow-plain (64 + (65 + (1 + 65))) _
+    (IsPlain-then 64 131 (decimal a) _ (IsPlain-decimal a small_a) (IsPlain-then 65 66 (32 ∷ decimal b) _ (after_byte 32 b refl small_b) (IsPlain-then 1 65 (58 ∷ []) _ mark weight))) (omega arith)
+
+pub IsRow-threshold : (t : ℕ) → t < 10 ^ 64 → IsRow (threshold_row t)
+IsRow-threshold t small = IsRow-plain 64 _ (IsPlain-decimal t small) (omega arith)
+
 IsPlain-ids : (ids : List ℕ) → list_all is_plain ids ≡ true → length ids < 262144 → IsPlain 262144 (ids_text ids)
 IsPlain-ids [] plain few = record { bytes = refl; few = omega arith }
 IsPlain-ids (id ∷ ids) plain few = record { bytes = plain; few = omega (arith, few) }
@@ -60,6 +70,9 @@ IsRow-frame row short plain few =
     IsRow-plain (197 + 262144) _ (IsPlain-then 197 262144 (position_text row.start) (ids_text row.ids) (IsPlain-position row.start short) (IsPlain-ids row.ids plain few)) (omega arith)
 
 -- Each begins with a number.
+
+pub begins-contact : (a b : ℕ) (w : ℤ) → a < 10 ^ 64 → begins_number (contact_row ((a, b), w)) ≡ true
+begins-contact a b w small = begins_number-append (decimal a) _ (begins_number-decimal a small)
 
 begins_number-position : (p : P3) (rest : List ℕ) → IsShort p → begins_number (position_text p ++ rest) ≡ true
 begins_number-position p rest short = begins_number-append (position_text p) rest (begins_number-append (signed_decimal p.x) _ (begins_number-signed p.x short.x))

@@ -1,5 +1,6 @@
 -- What is written of a world is rows, each with its newline.
-use Rattle.std.proofs.Common.{◌≡◌, ℕ, ◌+◌, ◌<◌, min, max, true, false, not, nat_eq, nat_lt, if◌then◌else◌, List, [], ◌∷◌, ◌++◌, map, codes, decimal, refl, sym, ap, ◌∙◌, ⊎_elim, append_assoc, append-nil, arith}
+use Rattle.std.proofs.Common.{◌≡◌, ℕ, ◌+◌, ◌<◌, min, max, true, false, not, nat_eq, nat_lt, if◌then◌else◌, List, [], ◌∷◌, ◌++◌, map, codes, decimal, ℤ, refl, sym, ap, ◌∙◌, ⊎_elim, append_assoc, append-nil, arith}
+use Rattle.std.specs.Fmt.{signed_decimal}
 use Rattle.std.specs.List.{flat_map}
 use Rattle.std.proofs.lemmas.Bool.{cases_Bool, and_parts}
 use Rattle.std.proofs.lemmas.Bool.Decides.{nat_tests}
@@ -7,9 +8,11 @@ use Rattle.std.proofs.lemmas.List.{map-append}
 use Rattle.bfm_base.specs.declared.place.P3.{P3}
 use Rattle.bfm_world.specs.Bonds.{neighbours_of}
 use Rattle.bfm_world.specs.Configuration.{Configuration, label_of, valence_of, is_fixed}
+use Rattle.contact_table.specs.Contacts.{ContactTable}
+use Rattle.contact_table.specs.Entries.{entries_of}
 use Rattle.bfm_writer.specs.Rows.{Row, rows_of}
 use Rattle.bfm_writer.specs.Text.{position_text, ids_text, row_text, time_line, frame_text, bond_line, group_text}
-use Rattle.bfm_writer.specs.Header.{value_line, values_of, listed, vector_line, set_text, monomers_of, is_shown, is_listed, bond_entry, bond_entries, bonds_text, mark_line, mark_entry, labels_text, valences_text, fixed_entry, fixed_text, marks_text, header_text}
+use Rattle.bfm_writer.specs.Header.{value_line, values_of, listed, vector_line, set_text, monomers_of, is_shown, is_listed, bond_entry, bond_entries, bonds_text, mark_line, mark_entry, labels_text, valences_text, fixed_entry, fixed_text, marks_text, contact_line, contacts_text, threshold_line, acceptance_text, table_text, header_text}
 use Rattle.bfm_session.proofs.ReadBackLines.{text_of, text_of-append}
 
 -- The rows, without their newlines.
@@ -28,6 +31,12 @@ mark_row said = decimal (said.0 + 1) ++ 58 ∷ decimal said.1
 
 abbrev pub number_row : ℕ → List ℕ
 number_row i = decimal (i + 1)
+
+abbrev pub contact_row : (ℕ × ℕ) × ℤ → List ℕ
+contact_row e = decimal e.0.0 ++ 32 ∷ (decimal e.0.1 ++ 58 ∷ signed_decimal e.1)
+
+abbrev pub threshold_row : ℕ → List ℕ
+threshold_row t = decimal t
 
 abbrev pub time_row : ℕ → List ℕ
 time_row mcs = codes "!mcs=" ++ decimal mcs
@@ -70,10 +79,15 @@ mark_rows w =
     ++ (listed_rows (codes "!bfm_valence") (map mark_row (listed_marks (valence_of w) w))
     ++ listed_rows (codes "!bfm_fixed") (map number_row (listed_fixed w)))
 
+abbrev pub table_rows : ContactTable → List (List ℕ)
+table_rows table =
+    listed_rows (codes "!bfm_contacts") (map contact_row (entries_of table))
+    ++ listed_rows (codes "!bfm_acceptance") (map threshold_row table.thresholds)
+
 abbrev pub list_rows : Configuration → List (List ℕ)
 list_rows w =
     listed_rows (codes "!set_of_bondvectors") (map vector_row w.set)
-    ++ (listed_rows (codes "!bonds") (map pair_row (listed_pairs w)) ++ mark_rows w)
+    ++ (listed_rows (codes "!bonds") (map pair_row (listed_pairs w)) ++ (mark_rows w ++ table_rows w.table))
 
 abbrev pub header_rows : Configuration → List (List ℕ)
 header_rows w = map value_row (values_of w) ++ list_rows w
@@ -177,10 +191,22 @@ marks_text-rows w =
     (listed_text (codes "!bfm_valence") _ _ (text_of-items mark_row (λ i. mark_entry i (valence_of w i)) (said_at (valence_of w)) (monomers_of w) (mark_entry-rows (valence_of w))))
     (listed_text (codes "!bfm_fixed") _ _ (text_of-items number_row (fixed_entry w) (fixed_at w) (monomers_of w) (fixed_entry-rows w))))
 
+contact_line-row : (e : (ℕ × ℕ) × ℤ) → contact_line e ≡ contact_row e ++ 10 ∷ []
+contact_line-row e =
+    ap (λ l. decimal e.0.0 ++ 32 ∷ l) (sym (append_assoc (decimal e.0.1) (58 ∷ signed_decimal e.1) (10 ∷ [])))
+    ∙ sym (append_assoc (decimal e.0.0) (32 ∷ (decimal e.0.1 ++ 58 ∷ signed_decimal e.1)) (10 ∷ []))
+
+table_text-rows : (table : ContactTable) → table_text table ≡ text_of (table_rows table)
+table_text-rows table =
+    both_texts (contacts_text table) (acceptance_text table) _ _
+    (listed_text (codes "!bfm_contacts") _ _ (text_of-map contact_row contact_line (entries_of table) contact_line-row))
+    (listed_text (codes "!bfm_acceptance") _ _ (text_of-map threshold_row threshold_line table.thresholds (λ t. refl)))
+
 pub header_text-rows : (w : Configuration) → header_text w ≡ text_of (header_rows w)
 header_text-rows w =
     both_texts _ _ (map value_row (values_of w)) (list_rows w) (text_of-map value_row value_line (values_of w) value_line-row)
-    (both_texts (set_text w) _ _ _ (set_text-rows w) (both_texts (bonds_text w) (marks_text w) _ _ (bonds_text-rows w) (marks_text-rows w)))
+    (both_texts (set_text w) _ _ _ (set_text-rows w) (both_texts (bonds_text w) _ _ _ (bonds_text-rows w)
+    (both_texts (marks_text w) (table_text w.table) _ _ (marks_text-rows w) (table_text-rows w.table))))
 
 frame_text-rows : (w : Configuration) (mcs : ℕ) → frame_text w mcs ≡ text_of (frame_rows w mcs)
 frame_text-rows w mcs = ap (λ l. time_line mcs ++ l) (text_of-map frame_row row_text (rows_of w) frame_line-row)

@@ -18,7 +18,7 @@ use Rattle.bfm_session.proofs.ReadBackEntries.{single}
 use Rattle.bfm_session.proofs.ReadBackWalk.{Says}
 use Rattle.bfm_session.proofs.ReadBackListed.{each_single}
 use Rattle.bfm_session.proofs.ReadBackWorld.{each_monomer, IsListedPair, each_pair}
-use Rattle.bfm_session.proofs.ReadBackHeader.{values_given, given_all, header_said, found_all}
+use Rattle.bfm_session.proofs.ReadBackHeader.{values_given, given_all, header_said, IsValue, found_all}
 
 -- A shape has three sides, and a mark for each of them.
 pub record HasThree (shape : Shape) : Type 0 where
@@ -27,29 +27,28 @@ pub record HasThree (shape : Shape) : Type 0 where
 
 -- The values.
 
-value_all : (w : Configuration) (known : Known) → is_same SetOfBondVectors known ≡ false → is_same Bonds known ≡ false → is_same Attributes known ≡ false → is_same Valence known ≡ false
-    → is_same Fixed known ≡ false → value_in known (given_all w) ≡ value_in known (values_given w)
-value_all w known a b c d e = ap (option_and_then (λ g. g.value)) (found_all w known a b c d e)
+value_all : (w : Configuration) (known : Known) → IsValue known → value_in known (given_all w) ≡ value_in known (values_given w)
+value_all w known is = ap (option_and_then (λ g. g.value)) (found_all w known is)
 
 pub count_all : (w : Configuration) → count_in (given_all w) ≡ length w.positions
-count_all w = ap (λ o. unwrap_or o 0) (value_all w NumberOfMonomers refl refl refl refl refl)
+count_all w = ap (λ o. unwrap_or o 0) (value_all w NumberOfMonomers (refl, refl, refl, refl, refl, refl, refl))
 
 pub none_missing : (w : Configuration) → some_missing (given_all w) ≡ false
 none_missing w =
-    let count : stands NumberOfMonomers (given_all w) ≡ true = ap is_some (found_all w NumberOfMonomers refl refl refl refl refl) in
-    let x : stands BoxX (given_all w) ≡ true = ap is_some (found_all w BoxX refl refl refl refl refl) in
-    let y : stands BoxY (given_all w) ≡ true = ap is_some (found_all w BoxY refl refl refl refl refl) in
-    let z : stands BoxZ (given_all w) ≡ true = ap is_some (found_all w BoxZ refl refl refl refl refl) in
-    let u : stands PeriodicX (given_all w) ≡ true = ap is_some (found_all w PeriodicX refl refl refl refl refl) in
-    let v : stands PeriodicY (given_all w) ≡ true = ap is_some (found_all w PeriodicY refl refl refl refl refl) in
-    let t : stands PeriodicZ (given_all w) ≡ true = ap is_some (found_all w PeriodicZ refl refl refl refl refl) in
+    let count : stands NumberOfMonomers (given_all w) ≡ true = ap is_some (found_all w NumberOfMonomers (refl, refl, refl, refl, refl, refl, refl)) in
+    let x : stands BoxX (given_all w) ≡ true = ap is_some (found_all w BoxX (refl, refl, refl, refl, refl, refl, refl)) in
+    let y : stands BoxY (given_all w) ≡ true = ap is_some (found_all w BoxY (refl, refl, refl, refl, refl, refl, refl)) in
+    let z : stands BoxZ (given_all w) ≡ true = ap is_some (found_all w BoxZ (refl, refl, refl, refl, refl, refl, refl)) in
+    let u : stands PeriodicX (given_all w) ≡ true = ap is_some (found_all w PeriodicX (refl, refl, refl, refl, refl, refl, refl)) in
+    let v : stands PeriodicY (given_all w) ≡ true = ap is_some (found_all w PeriodicY (refl, refl, refl, refl, refl, refl, refl)) in
+    let t : stands PeriodicZ (given_all w) ≡ true = ap is_some (found_all w PeriodicZ (refl, refl, refl, refl, refl, refl, refl)) in
     rw (count, x, y, z, u, v, t) refl
 
 pub box_small : (w : Configuration) → IsBox w.shape → is_box_too_large (given_all w) ≡ false
 box_small w box =
-    let x = value_all w BoxX refl refl refl refl refl in
-    let y = value_all w BoxY refl refl refl refl refl in
-    let z = value_all w BoxZ refl refl refl refl refl in
+    let x = value_all w BoxX (refl, refl, refl, refl, refl, refl, refl) in
+    let y = value_all w BoxY (refl, refl, refl, refl, refl, refl, refl) in
+    let z = value_all w BoxZ (refl, refl, refl, refl, refl, refl, refl) in
     rw (x, y, z) (few (side_of w.shape 0 * side_of w.shape 1 * side_of w.shape 2) box.sites)
   where
     few : (sites : ℕ) → sites ≤ 16777216 → nat_lt 16777216 sites ≡ false
@@ -72,12 +71,12 @@ pub shape_all : (w : Configuration) → HasThree w.shape → shape_in (given_all
 shape_all w has =
     let zero_or : (known : Known) → value_in known (given_all w) ≡ value_in known (values_given w) → value_or_zero known (given_all w) ≡ value_or_zero known (values_given w) =
     λ known e. ap (λ o. unwrap_or o 0) e in
-    let x = zero_or BoxX (value_all w BoxX refl refl refl refl refl) in
-    let y = zero_or BoxY (value_all w BoxY refl refl refl refl refl) in
-    let z = zero_or BoxZ (value_all w BoxZ refl refl refl refl refl) in
-    let u = zero_or PeriodicX (value_all w PeriodicX refl refl refl refl refl) in
-    let v = zero_or PeriodicY (value_all w PeriodicY refl refl refl refl refl) in
-    let t = zero_or PeriodicZ (value_all w PeriodicZ refl refl refl refl refl) in
+    let x = zero_or BoxX (value_all w BoxX (refl, refl, refl, refl, refl, refl, refl)) in
+    let y = zero_or BoxY (value_all w BoxY (refl, refl, refl, refl, refl, refl, refl)) in
+    let z = zero_or BoxZ (value_all w BoxZ (refl, refl, refl, refl, refl, refl, refl)) in
+    let u = zero_or PeriodicX (value_all w PeriodicX (refl, refl, refl, refl, refl, refl, refl)) in
+    let v = zero_or PeriodicY (value_all w PeriodicY (refl, refl, refl, refl, refl, refl, refl)) in
+    let t = zero_or PeriodicZ (value_all w PeriodicZ (refl, refl, refl, refl, refl, refl, refl)) in
     let sides : value_or_zero BoxX (given_all w) ∷ value_or_zero BoxY (given_all w) ∷ value_or_zero BoxZ (given_all w) ∷ [] ≡ w.shape.sides =
     (λ i. x i ∷ y i ∷ z i ∷ []) ∙ three w.shape.sides 0 has.three_sides in
     let marks : nat_eq (value_or_zero PeriodicX (given_all w)) 1 ∷ nat_eq (value_or_zero PeriodicY (given_all w)) 1 ∷ nat_eq (value_or_zero PeriodicZ (given_all w)) 1 ∷ [] ≡ w.shape.periodic =

@@ -4,8 +4,9 @@ use Rattle.std.proofs.lemmas.Bool.{cases_Bool}
 use Rattle.std.proofs.lemmas.Bool.Decides.{nat_tests}
 use Rattle.std.proofs.lemmas.List.{length-set, set_past}
 use Rattle.bfm_base.specs.declared.place.Dir.{Dir}
-use Rattle.bfm_world.specs.Configuration.{Configuration, IsValid, is_legal, moved, reach_of, target_of}
-use Rattle.sweep_run.specs.Sweep.{Progress, attempted, after_attempts, swept, after_sweeps, monomer_of, direction_of}
+use Rattle.bfm_world.specs.Acceptance.{makes_move}
+use Rattle.bfm_world.specs.Configuration.{Configuration, IsValid, moved, reach_of, target_of}
+use Rattle.sweep_run.specs.Sweep.{Progress, attempted, after_attempts, swept, after_sweeps, monomer_of, direction_of, acceptance_word}
 use Rattle.sweep_run.proofs.SweepLemmas.{reach_of_attempted, IsValid-state}
 use Rattle.bfm_session.proofs.ReadBackGroup.{IsMoved}
 
@@ -26,31 +27,31 @@ IsDrifted-then a b w v u d e = record {
 }
 
 -- an attempt
-by_legal : (legal : Bool) (run : Progress) (i : ℕ) (d : Dir) → reach_of (cond legal (record { world = moved run.world i d; accepted = run.accepted + 1 }) run).world.positions ≤ reach_of run.world.positions + 1
-    → IsDrifted 1 run.world (cond legal (record { world = moved run.world i d; accepted = run.accepted + 1 }) run).world
-by_legal true run i d l = record { size = sym (length-set run.world.positions i (target_of run.world i d)); rest = refl; near = l }
-by_legal false run i d l = record { size = refl; rest = refl; near = l }
+by_move : (made : Bool) (run : Progress) (i : ℕ) (d : Dir) → reach_of (cond made (record { world = moved run.world i d; accepted = run.accepted + 1 }) run).world.positions ≤ reach_of run.world.positions + 1
+    → IsDrifted 1 run.world (cond made (record { world = moved run.world i d; accepted = run.accepted + 1 }) run).world
+by_move true run i d l = record { size = sym (length-set run.world.positions i (target_of run.world i d)); rest = refl; near = l }
+by_move false run i d l = record { size = refl; rest = refl; near = l }
 
-past_reach : (legal : Bool) (run : Progress) (i : ℕ) (d : Dir) → length run.world.positions ≤ i
-    → reach_of (cond legal (record { world = moved run.world i d; accepted = run.accepted + 1 }) run).world.positions ≤ reach_of run.world.positions + 1
+past_reach : (made : Bool) (run : Progress) (i : ℕ) (d : Dir) → length run.world.positions ≤ i
+    → reach_of (cond made (record { world = moved run.world i d; accepted = run.accepted + 1 }) run).world.positions ≤ reach_of run.world.positions + 1
 past_reach true run i d l = omega (arith, ap reach_of (set_past run.world.positions i (target_of run.world i d) l))
 past_reach false run i d l = omega arith
 
-drifted_attempt : (run : Progress) (i : ℕ) (d : Dir) → IsDrifted 1 run.world (attempted run i d).world
-drifted_attempt run i d =
-    by_legal (is_legal run.world i d) run i d
+drifted_attempt : (run : Progress) (i : ℕ) (d : Dir) (word : ℕ) → IsDrifted 1 run.world (attempted run i d word).world
+drifted_attempt run i d word =
+    by_move (makes_move run.world i d word) run i d
     (⊎_elim
-    (λ (inside : nat_lt i (length run.world.positions) ≡ true). let l : i < length run.world.positions = grind (arith, nat_tests) in reach_of_attempted run i d l)
-    (λ (past : nat_lt i (length run.world.positions) ≡ false). let l : length run.world.positions ≤ i = grind (arith, nat_tests) in past_reach (is_legal run.world i d) run i d l)
+    (λ (inside : nat_lt i (length run.world.positions) ≡ true). let l : i < length run.world.positions = grind (arith, nat_tests) in reach_of_attempted run i d word l)
+    (λ (past : nat_lt i (length run.world.positions) ≡ false). let l : length run.world.positions ≤ i = grind (arith, nat_tests) in past_reach (makes_move run.world i d word) run i d l)
     (cases_Bool (nat_lt i (length run.world.positions))))
 
 drifted_attempts : (n seed first count : ℕ) (run : Progress) → IsDrifted count run.world (after_attempts n seed first count run).world
 drifted_attempts n seed first zero run = IsDrifted-none run.world
 drifted_attempts n seed first (suc count) run =
-    let next = attempted run (monomer_of n seed first) (direction_of seed first) in
+    let next = attempted run (monomer_of n seed first) (direction_of seed first) (acceptance_word seed first) in
     let one : 1 + count ≡ suc count = omega arith in
     subst (λ far. IsDrifted far run.world (after_attempts n seed (first + 1) count next).world) one
-    (IsDrifted-then 1 count run.world next.world (after_attempts n seed (first + 1) count next).world (drifted_attempt run (monomer_of n seed first) (direction_of seed first))
+    (IsDrifted-then 1 count run.world next.world (after_attempts n seed (first + 1) count next).world (drifted_attempt run (monomer_of n seed first) (direction_of seed first) (acceptance_word seed first))
     (drifted_attempts n seed (first + 1) count next))
 
 -- sweeps of a world of n monomers

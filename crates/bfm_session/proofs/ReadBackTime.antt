@@ -8,7 +8,7 @@ use Rattle.bfm_world.specs.Bonds.{are_bonded}
 use Rattle.bfm_world.specs.Configuration.{Configuration, IsValid}
 use Rattle.bfm_commands.specs.Forms.{value_number}
 use Rattle.bfm_commands.specs.Meaning.{command, meaning_of, role_of}
-use Rattle.bfm_commands.specs.History.{History, has_begun, owner_of, given_of, natural_in, count_in, shape_in, set_of, pairs_of, labels_of, valences_of, fixed_of, said_of_each, fixed_of_each, listed_bonds, mcs_of, is_first_frame, draft_of, frames_of, is_skipped, skipped_of}
+use Rattle.bfm_commands.specs.History.{History, has_begun, owner_of, given_of, natural_in, count_in, shape_in, set_of, pairs_of, labels_of, valences_of, fixed_of, table_of, said_of_each, fixed_of_each, listed_bonds, mcs_of, is_first_frame, draft_of, frames_of, is_skipped, skipped_of}
 use Rattle.bfm_commands.specs.Causes.{is_box_too_large, some_missing, names_beyond, is_overfull, known_cause, cause_of}
 use Rattle.bfm_commands.specs.declared.commands.Known.TheVariants.{Mcs}
 use Rattle.bfm_commands.specs.declared.owner.Owner.TheVariants.{Command}
@@ -23,6 +23,7 @@ use Rattle.bfm_session.proofs.ReadBackHeader.{header_said}
 use Rattle.bfm_session.proofs.ReadBackWorld.{IsListedPair, each_pair}
 use Rattle.bfm_session.proofs.ReadBackLines.{each-weaker}
 use Rattle.bfm_session.proofs.ReadBackSettings.{HasThree, count_all, none_missing, box_small, shape_all, none_beyond}
+use Rattle.bfm_session.proofs.ReadBackContacts.{table_back}
 use Rattle.bfm_session.proofs.ReadBackMarks.{labels_back, valences_back, fixed_back}
 use Rattle.bfm_session.proofs.ReadBackBonds.{IsPartOf, IsPartOf-none, IsPartOf-with_pairs, room_for_all}
 use Rattle.bfm_session.proofs.ReadBackPlacing.{partly}
@@ -101,10 +102,11 @@ module _ (w : Configuration) (ok : IsValid w) (has : HasThree w.shape) (before :
       let labels : said_of_each (labels_of before) (count_in (given_of before)) ≡ w.labels = (λ i. said_of_each (s.labels i) (n i)) ∙ labels_back w ok in
       let valences : said_of_each (valences_of before) (count_in (given_of before)) ≡ w.valences = (λ i. said_of_each (s.valences i) (n i)) ∙ valences_back w ok in
       let fixed : fixed_of_each (fixed_of before) (count_in (given_of before)) ≡ w.fixed = (λ i. fixed_of_each (s.fixed i) (n i)) ∙ fixed_back w ok in
+      let table : table_of before ≡ w.table = s.table ∙ table_back w.table ok.table in
       let listed = bonds w ok has before s in
       let same : draft_from before [] (bonds_in before) ≡ partly w [] (listed_bonds (length w.positions) (listed_pairs w)) =
       λ i. record {
-        world = record { shape = shape i; set = s.set i; positions = []; bonds = listed i; labels = labels i; valences = valences i; fixed = fixed i };
+        world = record { shape = shape i; set = s.set i; table = table i; positions = []; bonds = listed i; labels = labels i; valences = valences i; fixed = fixed i };
         count = n i;
       } in
       draft_of-first (time_row mcs) (61 ∷ decimal mcs) before is s.begun ∙ same

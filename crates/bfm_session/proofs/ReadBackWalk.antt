@@ -4,13 +4,14 @@ use Rattle.bfm_base.specs.declared.place.P3.{P3}
 use Rattle.bfm_base.specs.declared.cause.Cause.{Cause}
 use Rattle.bfm_base.specs.declared.cause.Refused.{Refused}
 use Rattle.bfm_base.specs.declared.limits.TheConstants.{GREATEST_LABEL, GREATEST_VALENCE}
-use Rattle.bfm_commands.specs.Forms.{vector_entry, pair_entry, range_entry, monomers_entry}
+use Rattle.contact_table.specs.Contacts.{ContactTable, no_contacts}
+use Rattle.bfm_commands.specs.Forms.{vector_entry, pair_entry, range_entry, monomers_entry, contact_entry, threshold_entry}
 use Rattle.bfm_commands.specs.Meaning.{Meaning, nothing, command, entry, meaning_of, role_of}
-use Rattle.bfm_commands.specs.History.{History, begins, has_begun, owner_after, owner_of, entry_of, given_in, given_as, given_by, given_of, with_vector, set_of, with_listed, pairs_of, with_said, labels_of, valences_of, with_range, fixed_of, is_skipped, skipped_of}
+use Rattle.bfm_commands.specs.History.{History, begins, has_begun, owner_after, owner_of, entry_of, given_in, given_as, given_by, given_of, with_vector, set_of, with_listed, pairs_of, with_said, labels_of, valences_of, with_range, fixed_of, with_contact, with_acceptance, table_of, is_skipped, skipped_of}
 use Rattle.bfm_commands.specs.Causes.{cause_of}
 use Rattle.bfm_commands.specs.Verdict.{newest_first, refused_at, first_wrong}
 use Rattle.bfm_commands.specs.declared.commands.Known.{Known}
-use Rattle.bfm_commands.specs.declared.commands.Known.TheVariants.{SetOfBondVectors, Bonds, Attributes, Valence, Fixed}
+use Rattle.bfm_commands.specs.declared.commands.Known.TheVariants.{SetOfBondVectors, Bonds, Attributes, Valence, Fixed, Contacts, Acceptance}
 use Rattle.bfm_commands.specs.declared.owner.Owner.{Owner}
 use Rattle.bfm_commands.specs.declared.owner.Owner.TheVariants.{Nobody, Unknown, Command}
 use Rattle.bfm_commands.specs.declared.settings.Given.{Given}
@@ -26,9 +27,10 @@ pub record Said : Type 0 where
   pub labels : List (Range × ℕ)
   pub valences : List (Range × ℕ)
   pub fixed : List Range
+  pub table : ContactTable
 
 abbrev pub nothing_said : Said
-nothing_said = record { owner = Nobody; given = []; set = []; pairs = []; labels = []; valences = []; fixed = [] }
+nothing_said = record { owner = Nobody; given = []; set = []; pairs = []; labels = []; valences = []; fixed = []; table = no_contacts }
 
 -- No frame has begun, no command was skipped, and this is what lines say.
 pub record Says (lines : History) (said : Said) : Type 0 where
@@ -41,9 +43,14 @@ pub record Says (lines : History) (said : Said) : Type 0 where
   pub labels : labels_of lines ≡ said.labels
   pub valences : valences_of lines ≡ said.valences
   pub fixed : fixed_of lines ≡ said.fixed
+  pub table : table_of lines ≡ said.table
 
 pub Says-none : Says [] nothing_said
-Says-none = record { begun = refl; skipped = refl; owner = refl; given = refl; set = refl; pairs = refl; labels = refl; valences = refl; fixed = refl }
+Says-none = record { begun = refl; skipped = refl; owner = refl; given = refl; set = refl; pairs = refl; labels = refl; valences = refl; fixed = refl; table = refl }
+
+-- a table after a line, by the entries that it may be
+abbrev table_after : ContactTable → Option (List ℕ) → Option (List ℕ) → ContactTable
+table_after table contact threshold = with_acceptance (with_contact table (given_in contact_entry contact)) (given_in threshold_entry threshold)
 
 -- One line more.
 
@@ -67,6 +74,9 @@ module _ (before : History) (said : Said) (s : Says before said) (line : List �
         ∙ ap (λ e. with_said (valences_of before) (given_in (λ text. range_entry text GREATEST_VALENCE) e)) (none Valence) ∙ s.valences;
     fixed = ap (λ x. with_range (fixed_of before) (given_in monomers_entry (entry_of Fixed (owner_of before) x))) is
         ∙ ap (λ e. with_range (fixed_of before) (given_in monomers_entry e)) (none Fixed) ∙ s.fixed;
+    table = ap (λ x. table_after (table_of before) (entry_of Contacts (owner_of before) x) (entry_of Acceptance (owner_of before) x)) is
+        ∙ ap (λ e. table_after (table_of before) e (entry_of Acceptance (owner_of before) m)) (none Contacts)
+        ∙ ap (table_after (table_of before) None) (none Acceptance) ∙ s.table;
   }
 
 -- what is said where a command is given that begins no frame
@@ -95,6 +105,7 @@ said_entry owner text said = record said {
   labels = with_said said.labels (given_in (λ t. range_entry t GREATEST_LABEL) (entry_of Attributes (Command owner) (entry text)));
   valences = with_said said.valences (given_in (λ t. range_entry t GREATEST_VALENCE) (entry_of Valence (Command owner) (entry text)));
   fixed = with_range said.fixed (given_in monomers_entry (entry_of Fixed (Command owner) (entry text)));
+  table = table_after said.table (entry_of Contacts (Command owner) (entry text)) (entry_of Acceptance (Command owner) (entry text));
 }
 
 pub Says-entry : (before : History) (said : Said) (line : List ℕ) (owner : Known) (text : List ℕ) → Says before said → said.owner ≡ Command owner → meaning_of line ≡ entry text
@@ -118,6 +129,9 @@ Says-entry before said line owner text s owned is =
           ∙ ap (λ l. with_said l (given_in (λ t. range_entry t GREATEST_VALENCE) (entry_of Valence (Command owner) (entry text)))) s.valences;
       fixed = ap (λ e. with_range (fixed_of before) (given_in monomers_entry e)) (given Fixed)
           ∙ ap (λ l. with_range l (given_in monomers_entry (entry_of Fixed (Command owner) (entry text)))) s.fixed;
+      table = ap (λ e. table_after (table_of before) e (entry_of Acceptance (owner_of before) (meaning_of line))) (given Contacts)
+          ∙ ap (table_after (table_of before) (entry_of Contacts (Command owner) (entry text))) (given Acceptance)
+          ∙ ap (λ t. table_after t (entry_of Contacts (Command owner) (entry text)) (entry_of Acceptance (Command owner) (entry text))) s.table;
     }
 
 -- Rows one after another.

@@ -22,6 +22,6 @@ loaded_back w mcs = record {
   skipped = 0;
 }
 
--- The file is accepted, and gives the same world: its box, set, positions, bonds, labels, valences and fixed monomers.
+-- The file is accepted, and gives the same world: its box, set, positions, table of contacts, bonds, labels, valences and fixed monomers.
 abbrev pub IsReadBack : Configuration → ℕ → Type 0
 IsReadBack w mcs = verdict_of (world_text w mcs) ≡ Ok (loaded_back w mcs)

@@ -6,6 +6,17 @@ use Rattle.bfm_session.specs.Loading.{IsOpen}
 use Rattle.bfm_session.proofs.LoadLemmas.{Takes-piece, Takes-none, Stops-decided}
 use Rattle.bfm_session.proofs.loading.read_all.Goals as goal
 
+pub loop-reader-preserved : goal.loop-reader-preserved
+loop-reader-preserved g c =
+    let inv = c.loop-reader.invariant in
+    let piece = take c.in-Ok-read.given c.read.new.into in
+    let taken = c.in_ok-take_piece-in-Ok-read.ensures in (
+      rw taken.more (Consumes-trans _ _ _ c.loop-reader.bytes.items piece inv.0 c.in-Ok-read.ensures.bytes.0),
+      c.in-Ok-read.ensures.calm ∙ inv.1,
+      taken.within,
+      taken.stands,
+    )
+
 pub returns-in_err-take_piece-in-Ok-read-clause-stopped : goal.returns-in_err-take_piece-in-Ok-read-clause-stopped
 returns-in_err-take_piece-in-Ok-read-clause-stopped g c =
     let p = err_from_is_err_and c.from_residual.result c.from_residual.ensures.1 in
