@@ -9,6 +9,8 @@
 mod building;
 #[cfg(test)]
 mod building_tests;
+#[cfg(test)]
+mod contact_tests;
 mod ending;
 mod job;
 #[cfg(test)]

@@ -38,7 +38,7 @@ const GROUPS: &str = "\n!mcs=1\n3 4 3\n\n!mcs=2\n3 4 4\n";
 
 /// Runs the tool over an input that gives `step` bytes a call and fails in one call, counted from 1,
 /// or in none, and compares the status, the output and the report.
-fn answers(
+pub(crate) fn answers(
     alloc: Global,
     words: &str,
     input: &[u8],
