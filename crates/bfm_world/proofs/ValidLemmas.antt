@@ -14,12 +14,12 @@ use Rattle.bfm_geom.proofs.DifferenceLemmas.{overlaps-symmetric}
 use Rattle.bfm_base.specs.Place.{extent_of}
 use Rattle.bfm_base.specs.declared.limits.TheConstants.{MOST_MONOMERS, WORLD_REACH, GREATEST_LABEL, GREATEST_VALENCE}
 use Rattle.bfm_geom.specs.Walls.{is_within_walls}
-use Rattle.bfm_world.specs.Configuration.{Configuration, AreMarked, IsSound, IsValid, is_clear, is_fixed, is_legal, moved, target_of, may_bond, keeps_bonds, position_at, reach_of}
+use Rattle.bfm_world.specs.Configuration.{Configuration, AreMarked, IsSound, IsValid, is_clear, is_fixed, is_legal, moved, bonded, target_of, may_bond, keeps_bonds, position_at, position_of, reach_of}
 use Rattle.bfm_world.proofs.BondLemmas.{and_left, and_right}
 use Rattle.bfm_world.proofs.ReachLemmas.{reach_of-set}
 use Rattle.contact_table.specs.Contacts.{ContactTable, IsContactTable}
 use Rattle.bfm_world.specs.Draft.{begun, may_join}
-use Rattle.bfm_world.specs.Bonds.{AreBonds, neighbours_of, are_bonded, is_full, with_bond, without_bond}
+use Rattle.bfm_world.specs.Bonds.{AreBonds, neighbours_of, are_bonded, is_full, without_bond}
 use Rattle.bfm_world.proofs.BondLemmas.{AreBonds-with_bond, AreBonds-none}
 use Rattle.bfm_world.proofs.PartLemmas.{AreBonds-without_bond, was_still}
 use Rattle.bfm_world.proofs.VectorLemmas.{HasVectors-placed, HasVectors-moved, HasVectors-joined, may_reach-at}
@@ -131,9 +131,10 @@ may_join-at w (x ∷ xs) q zero j h l m = may_reach-at w.shape w.set q x j h m
 may_join-at w (x ∷ xs) q (suc i) j h l m = may_join-at w xs q i j h (omega arith) m
 
 -- a sound world with one bond more
-pub IsSound-joined : (n : ℕ) (w : Configuration) (i j : ℕ) → IsSound n w → i ≢ j → i < n → j < n → are_bonded w.bonds i j ≡ false → may_join w (slice_get w.positions i) (slice_get w.positions j) ≡ true
-    → is_full w.bonds i ≡ false → is_full w.bonds j ≡ false → IsSound n (record w { bonds = with_bond w.bonds i j })
-IsSound-joined n w i j s ne l m new may room_i room_j = record {
+IsSound-bonded : (n : ℕ) (w : Configuration) (i j : ℕ) → IsSound n w → i ≢ j → i < n → j < n → are_bonded w.bonds i j ≡ false
+    → (i < length w.positions → j < length w.positions → may_bond w.shape w.set (position_at w.positions i) (position_at w.positions j) ≡ true)
+    → is_full w.bonds i ≡ false → is_full w.bonds j ≡ false → IsSound n (bonded w i j)
+IsSound-bonded n w i j s ne l m new may room_i room_j = record {
   box = s.box;
   set = s.set;
   symmetric = s.symmetric;
@@ -144,9 +145,25 @@ IsSound-joined n w i j s ne l m new may room_i room_j = record {
   inside = s.inside;
   apart = s.apart;
   bonds = AreBonds-with_bond n w.bonds i j s.bonds ne l m new room_i room_j;
-  vectors = HasVectors-joined w.shape w.set s.box s.set s.symmetric w.positions w.bonds i j s.vectors ne (omega (arith, s.bonds.rows)) (omega (arith, s.bonds.rows)) (may_join-at w w.positions w.positions i j may);
+  vectors = HasVectors-joined w.shape w.set s.box s.set s.symmetric w.positions w.bonds i j s.vectors ne (omega (arith, s.bonds.rows)) (omega (arith, s.bonds.rows)) may;
   marks = s.marks;
 }
+
+-- the same where the two may be joined, whether they have positions or not
+pub IsSound-joined : (n : ℕ) (w : Configuration) (i j : ℕ) → IsSound n w → i ≢ j → i < n → j < n → are_bonded w.bonds i j ≡ false → may_join w (slice_get w.positions i) (slice_get w.positions j) ≡ true
+    → is_full w.bonds i ≡ false → is_full w.bonds j ≡ false → IsSound n (bonded w i j)
+IsSound-joined n w i j s ne l m new may room_i room_j = IsSound-bonded n w i j s ne l m new (may_join-at w w.positions w.positions i j may) room_i room_j
+
+-- a valid world with one bond more
+pub IsValid-bonded : (w : Configuration) (i j : ℕ) → IsValid w → i < length w.positions → j < length w.positions → i ≢ j → are_bonded w.bonds i j ≡ false
+    → may_bond w.shape w.set (position_of w i) (position_of w j) ≡ true → is_full w.bonds i ≡ false → is_full w.bonds j ≡ false → IsValid (bonded w i j)
+IsValid-bonded w i j v l m ne new may room_i room_j = IsSound-bonded (length w.positions) w i j v ne l m new (λ _ _. may) room_i room_j
+
+-- what `World::bond` keeps, where w are the fields and v is the world that a caller sees
+pub bond_keeps : (w v : Configuration) (i j : ℕ) → w ≡ v → IsValid w → i < length v.positions → j < length v.positions → i ≢ j → are_bonded v.bonds i j ≡ false
+    → may_bond v.shape v.set (position_of v i) (position_of v j) ≡ true → is_full v.bonds i ≡ false → is_full v.bonds j ≡ false → IsValid (bonded w i j)
+bond_keeps w v i j e valid l m ne new may room_i room_j =
+    subst (λ u. IsValid (bonded u i j)) (sym e) (IsValid-bonded v i j (subst (λ (u : Configuration). IsValid u) e valid) l m ne new may room_i room_j)
 
 -- a world in which nothing is placed and nobody is bonded
 pub IsSound-begun : (shape : Shape) (set : List (P3 × ℕ)) (table : ContactTable) (n : ℕ) → IsBox shape → IsBondSet set → IsSymmetric set → IsContactTable table → 1 ≤ n → n ≤ MOST_MONOMERS

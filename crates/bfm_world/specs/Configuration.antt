@@ -12,7 +12,7 @@ use Rattle.bfm_geom.specs.Difference.{IsBox, plus, minus, wrapped, overlaps}
 use Rattle.bfm_geom.specs.Walls.{is_within_walls}
 use Rattle.bond_set.specs.BondSet.{IsBondSet, IsSymmetric, id_of}
 use Rattle.contact_table.specs.Contacts.{ContactTable, IsContactTable}
-use Rattle.bfm_world.specs.Bonds.{AreBonds, neighbours_of, are_bonded}
+use Rattle.bfm_world.specs.Bonds.{AreBonds, neighbours_of, are_bonded, with_bond}
 use Rattle.bfm_world.specs.declared.parts.Parts.{Parts}
 
 -- the box, the set of bond vectors with their identifiers, the weights of contacts with the thresholds of acceptance, the
@@ -137,3 +137,7 @@ is_legal w i d =
 -- the world after the step of monomer i
 abbrev pub moved : Configuration → ℕ → Dir → Configuration
 moved w i d = record w { positions = slice_set w.positions i (target_of w i d) }
+
+-- the world with one bond more, between monomers i and j
+abbrev pub bonded : Configuration → ℕ → ℕ → Configuration
+bonded w i j = record w { bonds = with_bond w.bonds i j }

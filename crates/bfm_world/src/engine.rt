@@ -1,14 +1,17 @@
-ghost use Rattle.std.specs.Prelude.{◌≡◌, ◌<◌, true, length, if◌then◌else◌};
+ghost use Rattle.std.specs.Prelude.{◌≡◌, ◌≢◌, ◌<◌, true, false, length, if◌then◌else◌};
+ghost use Rattle.bfm_geom.specs.Difference.{IsWithin};
 ghost use Rattle.bond_set.specs.Crossing.{IsFree};
 ghost use Rattle.bfm_world.specs.Acceptance.{makes_move};
-ghost use Rattle.bfm_world.specs.Configuration.{Configuration, moved, reach_of};
+ghost use Rattle.bfm_world.specs.Bonds.{are_bonded, is_full};
+ghost use Rattle.bfm_world.specs.Configuration.{Configuration, bonded, may_bond, moved, position_of, reach_of};
+ghost use Rattle.bfm_world.specs.Occupants.{monomer_at};
 ghost use Rattle.bfm_world.specs.Sweeping.{CrossesNone};
 
 use crate::world::World;
-use bfm_base::Dir;
-use bfm_base::limits::WORLD_REACH;
+use bfm_base::limits::{PLACE_REACH, WORLD_REACH};
+use bfm_base::{Dir, P3};
 
-/// What makes attempts at local moves in a world, by whatever data of its own.
+/// What makes attempts at local moves in a world and bonds its monomers, by whatever data of its own.
 pub trait Engine {
     ghost configuration: { Self → Configuration };
 
@@ -28,4 +31,22 @@ pub trait Engine {
         ensures world { configuration self.new
             ≡ (if makes_move (configuration self.old) monomer dir word then moved (configuration self.old) monomer dir else configuration self.old) }
         ensures uncrossed { result ≡ true → IsFree (configuration self.old).set → CrossesNone (configuration self.old) monomer dir };
+
+    /// The monomer that stands at a place, where one does. Places that differ by whole sides along
+    /// periodic axes are one. Coordinates are at most 2^45 in absolute value.
+    fn at(&self, place: P3) -> Option<u32>
+        requires { IsWithin PLACE_REACH place }
+        ensures { result ≡ monomer_at (configuration self.now) place };
+
+    /// Bonds two monomers that are not bonded. Their wrapped difference is in the set, and each of
+    /// them has fewer than 8 bonds.
+    fn bond(&mut self, i: u32, j: u32)
+        requires first { i < length (configuration self.old).positions }
+        requires second { j < length (configuration self.old).positions }
+        requires other { i ≢ j }
+        requires unbonded { are_bonded (configuration self.old).bonds i j ≡ false }
+        requires vector { may_bond (configuration self.old).shape (configuration self.old).set (position_of (configuration self.old) i) (position_of (configuration self.old) j) ≡ true }
+        requires first_room { is_full (configuration self.old).bonds i ≡ false }
+        requires second_room { is_full (configuration self.old).bonds j ≡ false }
+        ensures { configuration self.new ≡ bonded (configuration self.old) i j };
 }

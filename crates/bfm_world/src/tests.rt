@@ -1,6 +1,6 @@
 ghost use Rattle.std.specs.Prelude.{◌≡◌, ◌≤◌, [], IfOk};
 
-use crate::WorldBuilder;
+use crate::{WorldBuilder, may_bond};
 use bfm_base::limits::MOST_MONOMERS;
 use bfm_base::{Cause, Dir, P3, Shape};
 use bond_set::BondSet;
@@ -279,5 +279,26 @@ fn a_world_tells_positions_and_targets(rt: HostRuntime) -> Result<(), Fail> {
     assert_eq!(rt; world.reach(), 20);
     assert_eq!(rt; world.target(0, Dir::XUp), P3 { x: 8, y: 3, z: -20 });
     assert_eq!(rt; world.position(0), P3 { x: 7, y: 3, z: -20 });
+    Ok(())
+}
+
+#[test]
+fn a_world_takes_a_bond(rt: HostRuntime) -> Result<(), Fail> {
+    let mut builder = begun(rt.alloc(), 3)?;
+    assert!(rt; builder.place(P3 { x: 0, y: 0, z: 0 }).is_ok());
+    assert!(rt; builder.place(P3 { x: 2, y: 0, z: 0 }).is_ok());
+    assert!(rt; builder.place(P3 { x: 8, y: 3, z: 0 }).is_ok());
+    let mut world = builder.finish();
+    assert_eq!(rt; world.len(), 3);
+    // Through the boundary: the wrapped difference is (0, -3, 0).
+    let (p, q) = (world.position(2), world.position(0));
+    assert!(rt; may_bond(&world.shape(), world.set(), p, q));
+    assert!(rt; !world.bonded(2, 0));
+    assert!(rt; world.neighbours(2).is_empty() && world.neighbours(0).is_empty());
+    world.bond(2, 0);
+    assert!(rt; world.bonded(0, 2) && world.bonded(2, 0) && !world.bonded(1, 2));
+    assert!(rt; world.neighbours(0) == [2].as_slice() && world.neighbours(2) == [0].as_slice());
+    assert!(rt; world.neighbours(1).is_empty());
+    assert_eq!(rt; world.position(2), P3 { x: 8, y: 3, z: 0 });
     Ok(())
 }

@@ -1,11 +1,11 @@
-ghost use Rattle.std.specs.Prelude.{◌≡◌, ◌↔◌, ℕ, ◌+◌, ◌<◌, ◌≤◌, true, pos, length, nat_eq};
+ghost use Rattle.std.specs.Prelude.{◌≡◌, ◌≢◌, ◌↔◌, ℕ, ◌+◌, ◌<◌, ◌≤◌, true, false, pos, length, nat_eq};
 ghost use Rattle.std.specs.List.{Contains, IsDistinct};
 ghost use Rattle.bfm_base.specs.Direction.{step_of};
 ghost use Rattle.bfm_base.specs.Place.{extent_of};
 ghost use Rattle.bfm_geom.specs.Difference.{IsBox, plus};
 ghost use Rattle.bond_set.specs.Crossing.{IsFree};
-ghost use Rattle.bfm_world.specs.Bonds.{neighbours_of, are_bonded};
-ghost use Rattle.bfm_world.specs.Configuration.{configuration_of, IsValid, position_of, target_of, label_of, class_at, valence_of, is_fixed, is_legal, keeps_bonds, moved, reach_of};
+ghost use Rattle.bfm_world.specs.Bonds.{neighbours_of, are_bonded, is_full, Joins};
+ghost use Rattle.bfm_world.specs.Configuration.{configuration_of, IsValid, position_of, target_of, label_of, class_at, valence_of, is_fixed, is_legal, keeps_bonds, may_bond, moved, bonded, reach_of};
 ghost use Rattle.bfm_world.specs.Sweeping.{CrossesNone};
 
 use crate::parts::Parts;
@@ -206,5 +206,21 @@ impl World {
     {
         let target = self.target(i, dir);
         self.parts.positions[i as usize] = target;
+    }
+
+    /// Bonds two monomers that are not bonded. Their wrapped difference is in the set, and each of
+    /// them has fewer than 8 bonds.
+    pub fn bond(&mut self, i: u32, j: u32)
+        requires first { i < length self.old.positions }
+        requires second { j < length self.old.positions }
+        requires other { i ≢ j }
+        requires unbonded { are_bonded self.old.bonds i j ≡ false }
+        requires vector { may_bond self.old.shape self.old.set (position_of self.old i) (position_of self.old j) ≡ true }
+        requires first_room { is_full self.old.bonds i ≡ false }
+        requires second_room { is_full self.old.bonds j ≡ false }
+        ensures bonded { self.new ≡ bonded self.old i j }
+        ensures joined { Joins i j self.old.bonds self.new.bonds }
+    {
+        self.parts.bonds.join(i, j);
     }
 }

@@ -12,13 +12,14 @@ mod tests;
 ghost use Rattle.std.specs.Prelude.{◌≡◌, ◌+◌, ◌*◌, ◌<◌, ◌≤◌, length, remove, unsigned_abs};
 ghost use Rattle.bfm_base.specs.Place.{extent_of};
 ghost use Rattle.bfm_base.specs.declared.limits.TheConstants.{GREATEST_WEIGHT, MOST_MONOMERS};
-ghost use Rattle.bfm_geom.specs.Difference.{IsBox};
 ghost use Rattle.bfm_world.specs.Acceptance.{contact_weight, delta_of, is_accepted, weight_at};
+ghost use Rattle.bfm_geom.specs.Difference.{IsBox, IsWithin};
 ghost use Rattle.bfm_world.specs.Configuration.{is_legal, is_clear, reach_of};
+ghost use Rattle.bfm_world.specs.Occupants.{stands_at};
 
-use bfm_base::limits::WORLD_REACH;
+use bfm_base::limits::{PLACE_REACH, WORLD_REACH};
 use bfm_base::{Dir, P3, Shape};
-use bfm_geom::contact;
+use bfm_geom::{contact, plain_difference, wrap};
 use bfm_world::{Engine, World, is_clear, is_within_walls};
 use std::marker::Model;
 
@@ -67,6 +68,27 @@ impl Engine for PlainEngine {
         self.world.shift(monomer, dir);
         true
     }
+
+    fn at(&self, place: P3) -> Option<u32> {
+        (0..self.world.len()).find(|monomer| stands_at(&self.world, place, *monomer))
+    }
+
+    fn bond(&mut self, i: u32, j: u32) {
+        self.world.bond(i, j);
+    }
+}
+
+/// Whether a monomer stands at a place, or whole sides away from it along periodic axes.
+fn stands_at(world: &World, place: P3, monomer: u32) -> bool
+    requires place { IsWithin PLACE_REACH place }
+    requires monomer { monomer < length world.now.positions }
+    ensures { result ≡ stands_at world.now place monomer }
+{
+    let nothing = P3 { x: 0, y: 0, z: 0 };
+    wrap(
+        &world.shape(),
+        plain_difference(place, world.position(monomer)),
+    ) == nothing
 }
 
 /// Whether the step is legal: of a monomer that is not fixed, within the walls, clear of each other

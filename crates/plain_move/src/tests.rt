@@ -5,7 +5,7 @@ ghost use Rattle.bfm_world.specs.Configuration.{reach_of};
 
 use crate::PlainEngine;
 use bfm_base::{Dir, P3, Shape};
-use bfm_world::{Engine, WorldBuilder};
+use bfm_world::{Engine, WorldBuilder, may_bond};
 use bond_set::BondSet;
 use contact_table::Table;
 use std::alloc::{AllocError, Global};
@@ -30,6 +30,70 @@ fn legal_steps_are_made_and_others_are_not(rt: HostRuntime) -> Result<(), Fail> 
     assert!(rt; engine.attempt(1, Dir::ZUp, 0));
     assert_eq!(rt; engine.world().position(1), P3 { x: 0, y: 6, z: 1 });
     assert_eq!(rt; engine.into_world().position(0), P3 { x: 0, y: 0, z: 0 });
+    Ok(())
+}
+
+// Who stands at places of a box of side 8 whose z axis is walled, where monomers stand at (0, 0, 0)
+// and (0, 6, 0).
+#[rattlefmt::skip]
+const PLACES: [([i64; 3], Option<u32>); 8] = [
+    ([0, 0, 0], Some(0)),
+    ([0, 6, 0], Some(1)),
+    ([-8, 16, 0], Some(0)),
+    ([8, -2, 0], Some(1)),
+    ([0, 2, 0], None),
+    ([0, 7, 0], None),
+    ([0, 0, 8], None),
+    ([1, 6, 0], None),
+];
+
+#[test]
+fn places_whole_sides_apart_are_one_along_periodic_axes(rt: HostRuntime) -> Result<(), Fail> {
+    let shape = Shape {
+        sides: [8, 8, 8],
+        periodic: [true, true, false],
+    };
+    let set = BondSet::usual(rt.alloc())?;
+    let mut builder = WorldBuilder::new(rt.alloc(), shape, set, Table::new(), 2)?;
+    assert!(rt; builder.place(P3 { x: 0, y: 0, z: 0 }).is_ok());
+    assert!(rt; builder.place(P3 { x: 0, y: 6, z: 0 }).is_ok());
+    let engine = PlainEngine::new(builder.finish());
+    for ([x, y, z], monomer) in PLACES {
+        let place = P3 { x, y, z };
+        assert!(rt; place.extent() <= 16);
+        assert!(rt; engine.at(place) == monomer, "at {place:?}");
+    }
+    Ok(())
+}
+
+#[test]
+fn monomers_that_are_bonded_move_together(rt: HostRuntime) -> Result<(), Fail> {
+    let shape = Shape {
+        sides: [8, 8, 8],
+        periodic: [true, true, false],
+    };
+    let set = BondSet::usual(rt.alloc())?;
+    let mut builder = WorldBuilder::new(rt.alloc(), shape, set, Table::new(), 2)?;
+    assert!(rt; builder.place(P3 { x: 0, y: 0, z: 0 }).is_ok());
+    assert!(rt; builder.place(P3 { x: 0, y: 3, z: 0 }).is_ok());
+    let mut engine = PlainEngine::new(builder.finish());
+    let world = engine.world();
+    assert_eq!(rt; world.len(), 2);
+    assert!(rt;
+        may_bond(
+            &world.shape(),
+            world.set(),
+            world.position(0),
+            world.position(1)
+        )
+    );
+    assert!(rt; !world.bonded(0, 1));
+    assert!(rt; world.neighbours(0).is_empty() && world.neighbours(1).is_empty());
+    engine.bond(0, 1);
+    assert!(rt; engine.world().bonded(1, 0));
+    // A bond of four units along y is in no set.
+    assert!(rt; !engine.attempt(1, Dir::YUp, 0));
+    assert!(rt; engine.attempt(1, Dir::YDown, 0));
     Ok(())
 }
 
