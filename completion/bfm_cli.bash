@@ -1,9 +1,9 @@
 # Completion of the words of bfm_cli for bash. Source this file:
 #     . completion/bfm_cli.bash
 # It completes jobs, kinds of starts and the keys that a job still lacks. Behind `key=` it shows the range of
-# the number and its default, and completes 0 and 1 where these are all there is.
+# the number and its default, and completes the states of a switch, and 0 and 1 where these are all there is.
 
-# Prints the keys of a job, or of a kind of start, a line each: name, range, and default or "required".
+# Prints the keys of a job, or of a kind of start, a line each: name, range or states, and default or "required".
 _bfm_cli_keys() {
     local limit='limit 0..1073741824 default:268435456'
     local sides=$'x 8..512 required\ny 8..512 required\nz 8..512 required'
@@ -13,6 +13,7 @@ _bfm_cli_keys() {
         echo 'seed 0..18446744073709551615 required'
         echo 'frames 0..1048576 required'
         echo 'every 1..1073741824 required'
+        echo 'link on|off default:off'
         echo "$limit"
         ;;
     check | info)
@@ -49,16 +50,18 @@ _bfm_cli_offer() {
     done
 }
 
-# Shows or completes the number of a key, by what stands behind its `=`.
-_bfm_cli_number() {
-    local key=$1 digits=$2 range=$3 usual=$4 before=
+# Shows or completes the number or the state of a key, by what stands behind its `=`.
+_bfm_cli_value() {
+    local key=$1 value=$2 range=$3 usual=$4 before=
     # Where `=` parts no words, a candidate replaces the key as well.
     if [[ $COMP_WORDBREAKS != *=* ]]; then
         before=$key=
     fi
     if [[ $range == 0..1 ]]; then
-        _bfm_cli_offer "$before$digits" "${before}0" "${before}1"
-    elif [[ -z $digits && ${COMP_TYPE:-9} != 37 ]]; then
+        _bfm_cli_offer "$before$value" "${before}0" "${before}1"
+    elif [[ $range == *'|'* ]]; then
+        _bfm_cli_offer "$before$value" "$before${range%%|*}" "$before${range#*|}"
+    elif [[ -z $value && ${COMP_TYPE:-9} != 37 ]]; then
         # Two hints without a common beginning: bash lists them and inserts neither. Walking through a menu
         # would insert them, so it gets none.
         COMPREPLY=("$range" "($usual)")
@@ -124,7 +127,7 @@ _bfm_cli() {
     local key range usual word
     while read -r key range usual; do
         if [[ $current == "$key="* ]]; then
-            _bfm_cli_number "$key" "${current#*=}" "$range" "${usual/:/ }"
+            _bfm_cli_value "$key" "${current#*=}" "$range" "${usual/:/ }"
             return
         fi
         for word in "${given[@]}"; do

@@ -40,12 +40,14 @@ offers './out/bfm_cli i' 'info'
 offers 'bfm_cli build ' 'melt|brush|network'
 offers 'bfm_cli build n' 'network'
 offers 'bfm_cli build ring ' ''
-offers 'bfm_cli run ' 'seed=|frames=|every=|limit='
+offers 'bfm_cli run ' 'seed=|frames=|every=|link=|limit='
 offers 'bfm_cli run s' 'seed='
-offers 'bfm_cli run seed=1 every=10 ' 'frames=|limit='
-offers 'bfm_cli run seed=1 frames=2 every=10 limit=5 ' ''
+offers 'bfm_cli run seed=1 every=10 ' 'frames=|link=|limit='
+offers 'bfm_cli run seed=1 frames=2 every=10 limit=5 ' 'link='
+offers 'bfm_cli run seed=1 frames=2 every=10 limit=5 link=on ' ''
 offers 'bfm_cli check ' 'limit='
 offers 'bfm_cli info l' 'limit='
+offers 'bfm_cli run l' 'link=|limit='
 offers 'bfm_cli build melt ' 'x=|y=|z=|chains=|length=|px=|py=|pz='
 offers 'bfm_cli build melt p' 'px=|py=|pz='
 offers 'bfm_cli build melt x=16 y=16 ' 'z=|chains=|length=|px=|py=|pz='
@@ -58,6 +60,9 @@ offers 'bfm_cli run seed=' '0..18446744073709551615|(required)'
 offers 'bfm_cli run frames=' '0..1048576|(required)'
 offers 'bfm_cli run every=' '1..1073741824|(required)'
 offers 'bfm_cli run limit=' '0..1073741824|(default 268435456)'
+offers 'bfm_cli run link=' 'on|off'
+offers 'bfm_cli run link=of' 'off'
+offers 'bfm_cli run link=yes' ''
 offers 'bfm_cli build melt x=' '8..512|(required)'
 offers 'bfm_cli build melt chains=' '1..262144|(required)'
 offers 'bfm_cli build brush spacing=' '2..512|(required)'
@@ -77,6 +82,7 @@ COMP_TYPE=9
 # where `=` parts no words
 COMP_WORDBREAKS=$' \t\n'
 offers 'bfm_cli build melt pz=' 'pz=0|pz=1'
+offers 'bfm_cli run link=o' 'link=on|link=off'
 offers 'bfm_cli run e' 'every='
 COMP_WORDBREAKS=$' \t\n"\'><=;|&(:'
 
@@ -93,8 +99,8 @@ offers "bfm_cli run seed=1 < $folder/st" "$folder/start"
 offers "bfm_cli run seed=1 > $folder/tw" "$folder/two words"
 offers "bfm_cli run seed=1 2>$folder/st" "$folder/start"
 offers "bfm_cli run seed=1 >|$folder/tw" "$folder/two words"
-offers "bfm_cli run < $folder/start > $folder/new seed=1 " 'frames=|every=|limit='
-offers "bfm_cli run 2>$folder/report seed=1 " 'frames=|every=|limit='
+offers "bfm_cli run < $folder/start > $folder/new seed=1 " 'frames=|every=|link=|limit='
+offers "bfm_cli run 2>$folder/report seed=1 " 'frames=|every=|link=|limit='
 rm -r "$folder"
 
 # the keys of the program's text, where that stands beside this

@@ -26,7 +26,7 @@ use Rattle.bfm_cli.proofs.OutcomeLemmas.{IfSome-held, told-done}
 -- a run of an accepted file with a free set crosses no bond
 crosses-free : (order : RunOrder) (file : Result Loaded Refused) → HasValidStates order file → HasFreeSet file → CrossesNoBond order file
 crosses-free order (Err wrong) valid free = absurd free
-crosses-free order (Ok loaded) valid free = NoMoveCrosses-free order.seed loaded.mcs loaded.world (valid 0 0) free
+crosses-free order (Ok loaded) valid free = NoMoveCrosses-free order.linking order.seed loaded.mcs loaded.world (valid 0 0) free
 
 HasNoCrossing-free : (job : Result Job ℕ) (bytes : List ℕ) → HasValidWorlds job bytes → HasFreeSet (verdict_of bytes) → HasNoCrossing job bytes
 HasNoCrossing-free (Err word) bytes valid free = tt
@@ -37,7 +37,7 @@ HasNoCrossing-free (Ok (Build start)) bytes valid free = tt
 -- nor does one where the verdict on its set is that it is free
 crosses-judged : (order : RunOrder) (verdict : SetVerdict) (file : Result Loaded Refused) → HasValidStates order file → JudgesFile (Ok (File (Run order))) verdict file → verdict ≡ Free → CrossesNoBond order file
 crosses-judged order verdict (Err wrong) valid judged free = tt
-crosses-judged order verdict (Ok loaded) valid judged free = NoMoveCrosses-free order.seed loaded.mcs loaded.world (valid 0 0) (subst (IsVerdict loaded.world.set) free judged)
+crosses-judged order verdict (Ok loaded) valid judged free = NoMoveCrosses-free order.linking order.seed loaded.mcs loaded.world (valid 0 0) (subst (IsVerdict loaded.world.set) free judged)
 
 HasNoCrossing-judged : (job : Result Job ℕ) (bytes : List ℕ) (verdict : SetVerdict) → HasValidWorlds job bytes → JudgesInput job bytes verdict → verdict ≡ Free → HasNoCrossing job bytes
 HasNoCrossing-judged (Err word) bytes verdict valid judged free = tt

@@ -39,7 +39,7 @@ far_or_done : (far : Bool) (loaded : Loaded) (order : RunOrder) (kept : List ℕ
 far_or_done true loaded order kept verdict e = cc
 far_or_done false loaded order kept verdict e = cc
 
-accepted_outcome-words : (job : FileJob) (loaded : Loaded) (kept : List ℕ) (verdict : SetVerdict) → status_of (accepted_outcome job loaded kept verdict).ending ≢ statuses.BadWords
+pub accepted_outcome-words : (job : FileJob) (loaded : Loaded) (kept : List ℕ) (verdict : SetVerdict) → status_of (accepted_outcome job loaded kept verdict).ending ≢ statuses.BadWords
 accepted_outcome-words (Run order) loaded kept verdict e = far_or_done (is_too_far loaded order) loaded order kept verdict e
 accepted_outcome-words (Look ask limit) loaded kept verdict e = cc
 
@@ -81,7 +81,7 @@ job_outcome-status (Ok (Build start)) bytes a b = refl
 pub HasValidWorlds-loaded : (job : FileJob) (bytes : List ℕ) (loaded : Loaded) → IsValid loaded.world → verdict_of bytes ≡ Ok loaded → HasValidWorlds (Ok (File job)) bytes
 HasValidWorlds-loaded (Look ask limit) bytes loaded valid e = tt
 HasValidWorlds-loaded (Run order) bytes loaded valid e =
-    subst (HasValidStates order) (sym e) (λ count a. IsValid-state order.seed loaded.mcs count a (begun_with loaded.world) valid)
+    subst (HasValidStates order) (sym e) (λ count a. IsValid-state order.linking order.seed loaded.mcs count a (begun_with loaded.world) valid)
 
 -- what an ending behind the reading says of the input
 pub Reads-accepted : (ended : Result Ending Fault) (limit : ℕ) (taken : List ℕ) (before after : Supply) → IsOfFile ended → ReadWhole before after → Reads ended limit taken before after

@@ -87,6 +87,7 @@ module _ (order : RunOrder) (input : List ℕ) (m : IsMade order (limited_verdic
         output = ap (λ (o : Outcome). o.output) second_is ∙ (parts.same ∙ sym (ap (λ (o : Outcome). o.output) whole_is));
         mcs = parts.time;
         moves = parts.moves;
+        links = parts.links;
       }
 
 -- what a run that is done has written, it would have written in two parts

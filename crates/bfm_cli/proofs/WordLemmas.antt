@@ -1,15 +1,16 @@
 -- The words of a job, one after another.
-use Rattle.std.proofs.Common.{◌≡◌, ℕ, ◌+◌, ◌-◌, ◌<◌, ◌≤◌, ◌^◌, Bool, true, false, cond, ◌&&◌, nat_lt, List, [], ◌∷◌, ◌++◌, length, drop, get_or, map, Option, None, Some, is_some, Result, Ok, Err, refl, sym, ap, ◌∙◌, suc, add-one, drop-cons, rules, arith, ◌||◌}
-use Rattle.std.specs.List.{list_all}
+use Rattle.std.proofs.Common.{◌≡◌, ℕ, ◌+◌, ◌-◌, ◌<◌, ◌≤◌, ◌^◌, Bool, true, false, cond, ◌&&◌, nat_lt, List, [], ◌∷◌, ◌++◌, length, drop, get_or, map, Option, None, Some, is_some, option_and_then, eqb, not, lit<, Bor, if◌then◌else◌, Result, Ok, Err, refl, sym, ap, ◌∙◌, suc, add-one, drop-cons, rules, arith, ◌||◌}
+use Rattle.std.specs.List.{list_all, list_any, position_or_len}
 use Rattle.std.specs.Char.{is_ascii_digit}
 use Rattle.std.specs.Result.{OkIff, result_ok}
 use Rattle.std.specs.Str.Parse.{digits_value, ParsesUnsigned}
 use Rattle.std.proofs.lemmas.Bool.Decides.{nat_tests}
 use Rattle.std.proofs.lemmas.Str.Parse.{IsNumeralModel, numerals_by_value, parse_digits}
+use Rattle.std.proofs.lemmas.Str.Pattern.{IsSplitOnceResult, split_once_first}
 use Rattle.bfm_lexer.specs.Numbers.{natural_of}
 use Rattle.std.proofs.lemmas.List.{drop-map}
 use Rattle.std.specs.Str.{bytes_eq}
-use Rattle.bfm_cli.specs.Words.{Key, within, name_in, value_in, given, given_by, is_first, is_right, first_wrong}
+use Rattle.bfm_cli.specs.Words.{Key, within, name_in, value_in, value_of, first_of, is_right, first_wrong, Switch}
 
 own : IsNumeralModel (λ ds. list_all is_ascii_digit ds ≡ true) (digits_value 10)
 own = numerals_by_value _ (search rules)
@@ -40,26 +41,35 @@ pub parse-digits : {E : Type 0} (digits : List ℕ) (r : Result ℕ E) → Parse
 parse-digits digits r h d =
     parsed digits r _ _ refl refl (parse_digits own 64 digits r h d) ∙ ap (within 0 (2 ^ 64 - 1)) (sym (natural_of-digits digits d))
 
--- another text is no number
-pub natural_of-other : (digits : List ℕ) → list_all is_ascii_digit digits ≡ false → natural_of digits ≡ None
-natural_of-other digits h = elim (nat_lt 0 (length digits)) as (λ b. cond (b && list_all is_ascii_digit digits) (Some (digits_value 10 digits)) None ≡ None) [
-  | true ↦ ap (λ b. cond b (Some (digits_value 10 digits)) None) h
-  | false ↦ refl
+-- what stands before an end
+below-none : (n : ℕ) → true ≡ nat_lt 0 (suc n)
+below-none n = grind (arith, nat_tests)
+
+below-more : (m n : ℕ) → nat_lt m n ≡ nat_lt (1 + m) (suc n)
+below-more m n = grind (arith, nat_tests)
+
+-- an element passes where the first place of one is before the end
+any-first : {X : Type 0} (p : X → Bool) (xs : List X) → list_any p xs ≡ nat_lt (position_or_len p xs) (length xs)
+any-first p [] = refl
+any-first p (x ∷ xs) = elim (p x) as (λ b. (b || list_any p xs) ≡ nat_lt (cond (not b) (1 + position_or_len p xs) 0) (suc (length xs))) [
+  | true ↦ below-none (length xs)
+  | false ↦ any-first p xs ∙ below-more (position_or_len p xs) (length xs)
 ]
 
--- what a text that is no number of 64 bits gives a key
-within-none : (least greatest : ℕ) (o : Option ℕ) → greatest < 2 ^ 64 → within 0 (2 ^ 64 - 1) o ≡ None → within least greatest o ≡ None
-within-none least greatest None h e = refl
-within-none least greatest (Some n) h e = over (nat_lt n (2 ^ 64)) refl
-  where
-    over : (b : Bool) → nat_lt n (2 ^ 64) ≡ b → within least greatest (Some n) ≡ None
-    over true f = absurd (let g : within 0 (2 ^ 64 - 1) (Some n) ≡ Some n = within-fits n (grind (arith, nat_tests)) in cc)
-    over false f = grind (arith, nat_tests)
+-- what a word that is split at its first `=` says of a name
+abbrev pub said : List ℕ → Bor (List ℕ) × Bor (List ℕ) → Option (List ℕ)
+said name parts = if bytes_eq parts.0.now name then Some parts.1.now else None
 
-pub given-none : (key : Key) (word digits : List ℕ) → digits ≡ value_in word → key.greatest < 2 ^ 64 → within 0 (2 ^ 64 - 1) (natural_of digits) ≡ None → given key word ≡ None
-given-none key word digits e h none =
-    let w : within key.least key.greatest (natural_of (value_in word)) ≡ None = ap (λ d. within key.least key.greatest (natural_of d)) (sym e) ∙ within-none key.least key.greatest (natural_of digits) h none in
-    elim (bytes_eq (name_in word) key.name) as (λ b. cond b (within key.least key.greatest (natural_of (value_in word))) None ≡ None) [ true ↦ w | false ↦ refl ]
+pub value_of-split : (name word : List ℕ) (r : Option (Bor (List ℕ) × Bor (List ℕ))) → IsSplitOnceResult 61 word r → value_of name word ≡ option_and_then (said name) r
+value_of-split name word None h =
+    let at = split_once_first 61 word None h (lit< tt) in
+    let none : list_any (λ b. eqb b 61) word ≡ false = any-first _ word ∙ grind (arith, nat_tests) in
+    ap (λ b. cond (b && bytes_eq (name_in word) name) (Some (value_in word)) None) none
+value_of-split name word (Some x) h =
+    let at = split_once_first 61 word (Some x) h (lit< tt) in
+    let some : list_any (λ b. eqb b 61) word ≡ true = any-first _ word ∙ grind (arith, nat_tests) in
+    ap (λ b. cond (b && bytes_eq (name_in word) name) (Some (value_in word)) None) some
+    ∙ (ap (λ n. cond (bytes_eq n name) (Some (value_in word)) None) (sym at.1) ∙ ap (λ v. cond (bytes_eq x.0.now name) (Some v) None) (sym at.2))
 
 -- the first of what is left, and the rest
 pub next_of : {X Y : Type 0} (f : X → Y) (xs : List X) (i : ℕ) (d : X) → i < length xs → drop i (map f xs) ≡ f (get_or xs i d) ∷ drop (i + 1) (map f xs)
@@ -70,24 +80,23 @@ pub next_text : {X Y : Type 0} (text : X → Y) (words : List X) (i : ℕ) (w : 
     → drop i (map text words) ≡ t ∷ drop (i + 1) (map text words)
 next_text text words i w t h e f = next_of text words i w h ∙ ap (λ u. u ∷ drop (i + 1) (map text words)) (ap text (sym e) ∙ sym f)
 
--- a word gives the key a number, or the words behind it are asked
-pub given_by-here : (key : Key) (word : List ℕ) (words : List (List ℕ)) → is_some (given key word) ≡ true → given_by key (word ∷ words) ≡ given key word
-given_by-here key word words h = ap (λ b. cond b (given key word) (given_by key words)) h
+-- a word gives something, or the words behind it are asked
+pub first_of-here : {A : Type 0} (gives : List ℕ → Option A) (word : List ℕ) (words : List (List ℕ)) → is_some (gives word) ≡ true → first_of gives (word ∷ words) ≡ gives word
+first_of-here gives word words h = ap (λ b. cond b (gives word) (first_of gives words)) h
 
-pub given_by-later : (key : Key) (word : List ℕ) (words : List (List ℕ)) → is_some (given key word) ≡ false → given_by key (word ∷ words) ≡ given_by key words
-given_by-later key word words h = ap (λ b. cond b (given key word) (given_by key words)) h
+pub first_of-later : {A : Type 0} (gives : List ℕ → Option A) (word : List ℕ) (words : List (List ℕ)) → is_some (gives word) ≡ false → first_of gives (word ∷ words) ≡ first_of gives words
+first_of-later gives word words h = ap (λ b. cond b (gives word) (first_of gives words)) h
 
--- a key is given a first number, or the keys behind it are asked
-pub is_right-here : (key : Key) (keys : List Key) (before : List (List ℕ)) (word : List ℕ) → is_first before word key ≡ true → is_right (key ∷ keys) before word ≡ true
-is_right-here key keys before word h = ap (λ b. b || is_right keys before word) h
-
-pub is_right-later : (key : Key) (keys : List Key) (before : List (List ℕ)) (word : List ℕ) → is_first before word key ≡ false → is_right (key ∷ keys) before word ≡ is_right keys before word
-is_right-later key keys before word h = ap (λ b. b || is_right keys before word) h
+-- a test of what becomes of elements
+pub list_any-map : {X Y : Type 0} (f : X → Y) (p : Y → Bool) (xs : List X) → list_any p (map f xs) ≡ list_any (λ x. p (f x)) xs
+list_any-map f p [] = refl
+list_any-map f p (x ∷ xs) = ap (λ b. p (f x) || b) (list_any-map f p xs)
 
 -- a word is wrong, or the words behind it are judged
-pub first_wrong-here : (keys : List Key) (before : List (List ℕ)) (word : List ℕ) (words : List (List ℕ)) → is_right keys before word ≡ false → first_wrong keys before (word ∷ words) ≡ Some (length before)
-first_wrong-here keys before word words h = ap (λ b. cond b (first_wrong keys (before ++ word ∷ []) words) (Some (length before))) h
+pub first_wrong-here : (keys : List Key) (switches : List Switch) (before : List (List ℕ)) (word : List ℕ) (words : List (List ℕ)) → is_right keys switches before word ≡ false
+    → first_wrong keys switches before (word ∷ words) ≡ Some (length before)
+first_wrong-here keys switches before word words h = ap (λ b. cond b (first_wrong keys switches (before ++ word ∷ []) words) (Some (length before))) h
 
-pub first_wrong-later : (keys : List Key) (before : List (List ℕ)) (word : List ℕ) (words : List (List ℕ)) → is_right keys before word ≡ true
-    → first_wrong keys before (word ∷ words) ≡ first_wrong keys (before ++ word ∷ []) words
-first_wrong-later keys before word words h = ap (λ b. cond b (first_wrong keys (before ++ word ∷ []) words) (Some (length before))) h
+pub first_wrong-later : (keys : List Key) (switches : List Switch) (before : List (List ℕ)) (word : List ℕ) (words : List (List ℕ)) → is_right keys switches before word ≡ true
+    → first_wrong keys switches before (word ∷ words) ≡ first_wrong keys switches (before ++ word ∷ []) words
+first_wrong-later keys switches before word words h = ap (λ b. cond b (first_wrong keys switches (before ++ word ∷ []) words) (Some (length before))) h

@@ -52,8 +52,8 @@ report_of (ends.Ran done) =
     ∷ number_line (codes "frames") (done.frames ∷ [])
     ∷ number_line (codes "mcs") (done.mcs ∷ [])
     ∷ number_line (codes "skipped") (done.skipped ∷ [])
-    ∷ number_line (codes "accepted") (done.accepted ∷ [])
-    ∷ number_line (codes "links") (0 ∷ [])
+    ∷ number_line (codes "accepted") (done.tally.accepted ∷ [])
+    ∷ number_line (codes "links") (done.tally.links ∷ [])
     ∷ []
     )
     ++ crossing_text done.verdict

@@ -1,11 +1,11 @@
 -- The job that a list of words asks for.
-use Rattle.std.specs.Prelude.{ℕ, ◌+◌, ◌-◌, ◌^◌, ◌≤◌, List, [], ◌∷◌, length, codes, Option, None, Some, Result, Ok, Err, if◌then◌else◌}
+use Rattle.std.specs.Prelude.{ℕ, Bool, ◌+◌, ◌-◌, ◌^◌, ◌≤◌, List, [], ◌∷◌, length, codes, Option, None, Some, Result, Ok, Err, if◌then◌else◌}
 use Rattle.std.specs.Str.{bytes_eq}
 use Rattle.bfm_base.specs.declared.limits.TheConstants.{GREATEST_LIMIT, MOST_FRAMES, MOST_SWEEPS, USUAL_LIMIT}
 use Rattle.bfm_session.specs.declared.analysis.Ask.{Ask}
 use Rattle.bfm_session.specs.declared.analysis.Ask.TheVariants.{Check, Info}
 use Rattle.bfm_cli.specs.Start.{IsStart, brush_in, brush_keys, melt_in, melt_keys, network_in, network_keys}
-use Rattle.bfm_cli.specs.Words.{Key, first_wrong, number_for}
+use Rattle.bfm_cli.specs.Words.{Key, Switch, first_wrong, is_on, number_for}
 use Rattle.bfm_cli.specs.declared.job.FileJob.{FileJob}
 use Rattle.bfm_cli.specs.declared.job.FileJob.TheVariants.{Run, Look}
 use Rattle.bfm_cli.specs.declared.job.Job.{Job}
@@ -29,20 +29,29 @@ limit_key = record { name = codes "limit"; least = 0; greatest = GREATEST_LIMIT;
 abbrev pub run_keys : List Key
 run_keys = seed_key ∷ frames_key ∷ every_key ∷ limit_key ∷ []
 
--- and those of an analysis
+-- the switch of the job `run`: whether links are tried
+abbrev pub link_switch : Switch
+link_switch = record { name = codes "link"; on = codes "on"; off = codes "off" }
+
+abbrev pub run_switches : List Switch
+run_switches = link_switch ∷ []
+
+-- and the keys of an analysis
 abbrev pub look_keys : List Key
 look_keys = limit_key ∷ []
 
 -- a run, where each of its keys has a number; else the number of the word that is missing
-abbrev pub order_of : ℕ → Option ℕ → Option ℕ → Option ℕ → Option ℕ → Result Job ℕ
-order_of missing (Some seed) (Some frames) (Some every) (Some limit) = Ok (File (Run (record { seed = seed; frames = frames; every = every; limit = limit })))
-order_of missing seed frames every limit = Err missing
+abbrev pub order_of : ℕ → Option ℕ → Option ℕ → Option ℕ → Bool → Option ℕ → Result Job ℕ
+order_of missing (Some seed) (Some frames) (Some every) linking (Some limit) =
+    Ok (File (Run (record { seed = seed; frames = frames; every = every; linking = linking; limit = limit })))
+order_of missing seed frames every linking limit = Err missing
 
 -- The words behind the job's name, which is word 1: the first wrong one goes before one that is missing.
 abbrev pub run_of : List (List ℕ) → Option ℕ → Result Job ℕ
 run_of words (Some before) = Err (before + 2)
 run_of words None =
-    order_of (length words + 2) (number_for seed_key words) (number_for frames_key words) (number_for every_key words) (number_for limit_key words)
+    order_of (length words + 2) (number_for seed_key words) (number_for frames_key words) (number_for every_key words) (is_on link_switch words)
+    (number_for limit_key words)
 
 abbrev pub asked_of : Ask → ℕ → Option ℕ → Result Job ℕ
 asked_of ask missing (Some limit) = Ok (File (Look ask limit))
@@ -62,19 +71,19 @@ started words None None = Err (length words + 3)
 abbrev pub build_of : List (List ℕ) → Result Job ℕ
 build_of [] = Err 2
 build_of (kind ∷ words) =
-    if bytes_eq kind (codes "melt") then started words (first_wrong melt_keys [] words) (melt_in words)
-    else if bytes_eq kind (codes "network") then started words (first_wrong network_keys [] words) (network_in words)
-    else if bytes_eq kind (codes "brush") then started words (first_wrong brush_keys [] words) (brush_in words)
+    if bytes_eq kind (codes "melt") then started words (first_wrong melt_keys [] [] words) (melt_in words)
+    else if bytes_eq kind (codes "network") then started words (first_wrong network_keys [] [] words) (network_in words)
+    else if bytes_eq kind (codes "brush") then started words (first_wrong brush_keys [] [] words) (brush_in words)
     else Err 2
 
 -- the job, or the number of the first wrong word
 abbrev pub job_of : List (List ℕ) → Result Job ℕ
 job_of [] = Err 1
 job_of (name ∷ words) =
-    if bytes_eq name (codes "run") then run_of words (first_wrong run_keys [] words)
+    if bytes_eq name (codes "run") then run_of words (first_wrong run_keys run_switches [] words)
     else if bytes_eq name (codes "build") then build_of words
-    else if bytes_eq name (codes "check") then look_of Check words (first_wrong look_keys [] words)
-    else if bytes_eq name (codes "info") then look_of Info words (first_wrong look_keys [] words)
+    else if bytes_eq name (codes "check") then look_of Check words (first_wrong look_keys [] [] words)
+    else if bytes_eq name (codes "info") then look_of Info words (first_wrong look_keys [] [] words)
     else Err 1
 
 -- the numbers of a job are in their ranges

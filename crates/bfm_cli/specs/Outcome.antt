@@ -35,7 +35,7 @@ nothing ending = record { ending = ending; output = [] }
 
 -- what a run tells of itself
 abbrev pub run_report : ℕ → ℕ → RunOrder → RunDone → RunReport
-run_report kept skipped order done = record { kept = kept; frames = order.frames; mcs = done.mcs; skipped = skipped; accepted = done.accepted; verdict = done.verdict }
+run_report kept skipped order done = record { kept = kept; frames = order.frames; mcs = done.mcs; skipped = skipped; tally = done.tally; verdict = done.verdict }
 
 -- a run of an accepted file, of which this part is kept
 abbrev pub run_outcome : RunOrder → Loaded → List ℕ → SetVerdict → Outcome

@@ -18,7 +18,7 @@ abbrev pub outcome_of_run : RunOrder → List ℕ → SetVerdict → Outcome
 outcome_of_run order input verdict = job_outcome (Ok (File (Run order))) input verdict
 
 -- A whole run and its two parts are made. The second part comes to the output of the whole run, and to its last time; the moves
--- of both parts are those of the whole run.
+-- and links of both parts are those of the whole run.
 pub record AreInParts (first second whole : Outcome) : Type 0 where
   pub first_report : RunReport
   pub second_report : RunReport
@@ -28,7 +28,8 @@ pub record AreInParts (first second whole : Outcome) : Type 0 where
   pub whole_ran : whole.ending ≡ Ran whole_report
   pub output : second.output ≡ whole.output
   pub mcs : second_report.mcs ≡ whole_report.mcs
-  pub moves : first_report.accepted + second_report.accepted ≡ whole_report.accepted
+  pub moves : first_report.tally.accepted + second_report.tally.accepted ≡ whole_report.tally.accepted
+  pub links : first_report.tally.links + second_report.tally.links ≡ whole_report.tally.links
 
 -- Whatever two parts a run of this input is made in, and whatever the verdicts on the set, the second part comes to the very
 -- bytes that were written, where its limit admits the output of the first.

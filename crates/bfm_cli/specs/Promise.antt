@@ -101,7 +101,7 @@ Writes (Err faults.Memory) text before after unwritten = unwritten
 abbrev pub HasValidStates : RunOrder → Result Loaded Refused → Type 0
 HasValidStates order (Err wrong) = Unit {0}
 HasValidStates order (Ok loaded) =
-    (count a : ℕ) → IsValid (state_at order.seed loaded.mcs count a (begun_with loaded.world)).world
+    (count a : ℕ) → IsValid (state_at order.linking order.seed loaded.mcs count a (begun_with loaded.world)).world
 
 -- The worlds of a job are valid: each state of a run, and the world of a start, which its file gives back.
 abbrev pub HasValidWorlds : Result Job ℕ → List ℕ → Type 0
@@ -118,7 +118,7 @@ HasFreeSet (Ok loaded) = IsFree loaded.world.set
 -- no move of a run of an accepted file takes a bond through another that shares no monomer with it, in any image
 abbrev pub CrossesNoBond : RunOrder → Result Loaded Refused → Type 0
 CrossesNoBond order (Err wrong) = Unit {0}
-CrossesNoBond order (Ok loaded) = NoMoveCrosses order.seed loaded.mcs loaded.world
+CrossesNoBond order (Ok loaded) = NoMoveCrosses order.linking order.seed loaded.mcs loaded.world
 
 abbrev pub HasNoCrossing : Result Job ℕ → List ℕ → Type 0
 HasNoCrossing (Err word) bytes = Unit {0}

@@ -1,5 +1,6 @@
 use bfm_base::Refused;
 use crossing_check::SetVerdict;
+use sweep_run::Tally;
 
 /// What a finished run tells of itself.
 #[derive(Clone, Copy, Debug, PartialEq, Eq)]
@@ -12,8 +13,8 @@ pub struct RunReport {
     pub mcs: u64,
     /// The number of commands that were skipped.
     pub skipped: u64,
-    /// The number of moves that were made.
-    pub accepted: u64,
+    /// How many moves were made, and how many pairs were linked.
+    pub tally: Tally,
     /// Whether the set of bond vectors allows a crossing move.
     pub verdict: SetVerdict,
 }

@@ -1,10 +1,10 @@
 ghost use Rattle.std.specs.Prelude.{◌≡◌, ◌<◌, [], length, map, IfOk, IfSome, string_bytes};
 ghost use Rattle.bfm_cli.specs.Start.{IsStart};
-ghost use Rattle.bfm_cli.specs.Job.{build_of, job_of, look_keys, look_of, run_keys, run_of, started, IsInRange};
+ghost use Rattle.bfm_cli.specs.Job.{build_of, job_of, look_keys, look_of, run_keys, run_of, run_switches, started, IsInRange};
 ghost use Rattle.bfm_cli.specs.Words.{first_wrong};
 
 use crate::start::{BRUSH_KEYS, MELT_KEYS, NETWORK_KEYS, Start, brush_in, melt_in, network_in};
-use crate::words::{Key, first_wrong, number_for};
+use crate::words::{Key, Switch, first_wrong, is_on, number_for};
 use bfm_base::limits::{GREATEST_LIMIT, MOST_FRAMES, MOST_SWEEPS, USUAL_LIMIT};
 use bfm_session::{Ask, RunOrder};
 
@@ -52,10 +52,17 @@ const LIMIT: Key = Key {
     usual: Some(USUAL_LIMIT),
 };
 
+const LINK: Switch = Switch {
+    name: "link",
+    on: "on",
+    off: "off",
+};
+
 /// The job that the words after the program's name ask for, or the number of the first wrong word,
-/// from 1: a word that names no job or no start, that is not `key=number` with a key of the job,
-/// that repeats a key or whose number is out of range. Where a key is missing that has no usual
-/// number, or the numbers of a start do not go together, it is the number of words plus 1.
+/// from 1: a word that names no job or no start, that is not `key=number` or `switch=state` with a
+/// key or a switch of the job, that repeats one, or whose number is out of range. Where a key is
+/// missing that has no usual number, or the numbers of a start do not go together, it is the number
+/// of words plus 1.
 pub fn job_of(words: &[String]) -> Result<Job, u64>
     ensures job { result ≡ job_of (map string_bytes words.now) }
     ensures ranges { IfOk result IsInRange }
@@ -78,10 +85,10 @@ pub fn job_of(words: &[String]) -> Result<Job, u64>
 
 /// The analysis whose name stands before these words.
 fn look_of(ask: Ask, words: &[String]) -> Result<Job, u64>
-    ensures job { result ≡ look_of ask (map string_bytes words.now) (first_wrong look_keys [] (map string_bytes words.now)) }
+    ensures job { result ≡ look_of ask (map string_bytes words.now) (first_wrong look_keys [] [] (map string_bytes words.now)) }
     ensures ranges { IfOk result IsInRange }
 {
-    if let Some(before) = first_wrong(&[LIMIT], words) {
+    if let Some(before) = first_wrong(&[LIMIT], &[], words) {
         return Err(before + 2);
     }
     let missing = words.len() as u64 + 2;
@@ -91,10 +98,10 @@ fn look_of(ask: Ask, words: &[String]) -> Result<Job, u64>
 
 /// The run that the words after the job's name ask for.
 fn run_of(words: &[String]) -> Result<Job, u64>
-    ensures job { result ≡ run_of (map string_bytes words.now) (first_wrong run_keys [] (map string_bytes words.now)) }
+    ensures job { result ≡ run_of (map string_bytes words.now) (first_wrong run_keys run_switches [] (map string_bytes words.now)) }
     ensures ranges { IfOk result IsInRange }
 {
-    if let Some(before) = first_wrong(&[SEED, FRAMES, EVERY, LIMIT], words) {
+    if let Some(before) = first_wrong(&[SEED, FRAMES, EVERY, LIMIT], &[LINK], words) {
         return Err(before + 2);
     }
     let missing = words.len() as u64 + 2;
@@ -106,6 +113,7 @@ fn run_of(words: &[String]) -> Result<Job, u64>
         seed,
         frames,
         every,
+        linking: is_on(&LINK, words),
         limit,
     })))
 }
@@ -119,11 +127,15 @@ fn build_of(words: &[String]) -> Result<Job, u64>
         return Err(2);
     };
     if kind.as_str() == "melt" {
-        started(words, first_wrong(&MELT_KEYS, words), melt_in(words))
+        started(words, first_wrong(&MELT_KEYS, &[], words), melt_in(words))
     } else if kind.as_str() == "network" {
-        started(words, first_wrong(&NETWORK_KEYS, words), network_in(words))
+        started(
+            words,
+            first_wrong(&NETWORK_KEYS, &[], words),
+            network_in(words),
+        )
     } else if kind.as_str() == "brush" {
-        started(words, first_wrong(&BRUSH_KEYS, words), brush_in(words))
+        started(words, first_wrong(&BRUSH_KEYS, &[], words), brush_in(words))
     } else {
         Err(2)
     }

@@ -14,6 +14,8 @@ mod contact_tests;
 mod ending;
 mod job;
 #[cfg(test)]
+mod link_tests;
+#[cfg(test)]
 mod reading_tests;
 mod report;
 mod start;

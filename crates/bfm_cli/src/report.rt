@@ -76,8 +76,8 @@ fn write_run<P: Sink>(done: &RunReport, report: &mut P) -> Result<(), Failed>
             (b"frames", &[done.frames]),
             (b"mcs", &[done.mcs]),
             (b"skipped", &[done.skipped]),
-            (b"accepted", &[done.accepted]),
-            (b"links", &[0]),
+            (b"accepted", &[done.tally.accepted]),
+            (b"links", &[done.tally.links]),
         ],
     )?;
     crossing_lines(&done.verdict, report)

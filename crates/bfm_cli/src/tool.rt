@@ -156,7 +156,7 @@ fn do_accepted<O: Sink>(
     ensures { DoesAccepted result job.now loaded kept.now (O.account output.old) (O.account output.new) (output.new ≡ output.old) }
 {
     match job {
-        FileJob::Run(order) => run_accepted(order, loaded, kept, output),
+        FileJob::Run(order) => run_accepted(alloc, order, loaded, kept, output),
         FileJob::Look { ask, .. } => look_at_accepted(alloc, ask, &loaded, output),
     }
 }
@@ -179,6 +179,7 @@ fn look_at_accepted<O: Sink>(
 
 /// Runs a file that was accepted.
 fn run_accepted<O: Sink>(
+    alloc: Global,
     order: &RunOrder,
     loaded: Loaded,
     kept: &[u8],
@@ -190,16 +191,17 @@ fn run_accepted<O: Sink>(
     ensures { DoesAccepted result (FileJob.Run order.now) loaded kept.now (O.account output.old) (O.account output.new) (output.new ≡ output.old) }
 {
     let (kept_length, skipped) = (loaded.kept, loaded.skipped);
-    match run(loaded, kept, order, output) {
+    match run(alloc, loaded, kept, order, output) {
         Ok(done) => Ok(Ending::Ran(RunReport {
             kept: kept_length,
             frames: order.frames,
             mcs: done.mcs,
             skipped,
-            accepted: done.accepted,
+            tally: done.tally,
             verdict: done.verdict,
         })),
         Err(RunFault::TooFar { mcs, reach }) => Ok(Ending::TooFar { mcs, reach }),
         Err(RunFault::WriteFault) => Err(Fault::Write),
+        Err(RunFault::Memory) => Err(Fault::Memory),
     }
 }

@@ -1,8 +1,10 @@
+pub mod GoingOnLemmas
 mod InfoLemmas
 pub mod LimitLemmas
 mod LoadLemmas
 pub mod PartsRun
 pub mod PartsSweeps
+pub mod ReadBackAdded
 pub mod ReadBackBonded
 pub mod ReadBackBonds
 pub mod ReadBackContacts

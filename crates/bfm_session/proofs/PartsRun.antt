@@ -7,17 +7,17 @@ use Rattle.bfm_world.specs.Configuration.{IsValid}
 use Rattle.bfm_commands.specs.Verdict.{verdict_of}
 use Rattle.bfm_commands.specs.declared.loaded.Loaded.{Loaded}
 use Rattle.sweep_run.specs.Sweep.{Progress, begun_with}
-use Rattle.bfm_session.specs.Running.{groups_text, is_too_far, last_mcs, last_reach, run_text}
+use Rattle.bfm_session.specs.Running.{groups_text, is_too_far, last_mcs, last_of, last_reach, run_text}
 use Rattle.bfm_session.specs.Loading.{accepted, limited_verdict, whole_verdict}
-use Rattle.bfm_session.specs.Parts.{AreParts, GoesInParts, GoesOn, last_of, with_frames}
+use Rattle.bfm_session.specs.Parts.{AreParts, GoesInParts, GoesOn, with_frames}
 use Rattle.bfm_session.specs.declared.order.RunOrder.{RunOrder}
 use Rattle.bfm_session.proofs.LimitLemmas.{limited-within}
-use Rattle.bfm_session.proofs.PartsSweeps.{groups_text-parts, last_of-parts}
+use Rattle.bfm_session.proofs.PartsSweeps.{groups_text-frames, groups_text-parts, last_of-parts}
 use Rattle.bfm_session.proofs.ReadBackFile.{Accepted-verdict}
 use Rattle.bfm_session.proofs.ReadBackJob.{verdict_of-run}
 use Rattle.bfm_session.proofs.ReadBackKept.{kept_loaded}
 use Rattle.bfm_session.proofs.ReadBackRun.{with_groups}
-use Rattle.bfm_session.proofs.ReadBackSweeps.{drifted_sweeps}
+use Rattle.bfm_session.proofs.ReadBackSweeps.{grown_sweeps}
 
 -- an accepted file is accepted within each limit that it keeps
 pub limited_verdict-accepted : (bytes : List ℕ) (loaded : Loaded) (limit : ℕ) → verdict_of bytes ≡ Ok loaded → length bytes ≤ limit → limited_verdict limit bytes ≡ accepted loaded
@@ -47,7 +47,7 @@ near_is loaded order near = not_far (last_mcs loaded order) (last_reach loaded o
 abbrev pub goes_on : (bytes : List ℕ) (loaded : Loaded) (order : RunOrder) → verdict_of bytes ≡ Ok loaded → IsValid loaded.world → is_too_far loaded order ≡ false
     → GoesOn loaded order (run_text loaded order (take loaded.kept bytes))
 goes_on bytes loaded order verdict ok near = record {
-  next = with_groups (kept_loaded bytes loaded) order.seed order.every order.frames (length (run_text loaded order (take loaded.kept bytes)));
+  next = with_groups (kept_loaded bytes loaded) order order.frames (length (run_text loaded order (take loaded.kept bytes)));
   accepted = verdict_of-run bytes loaded order verdict ok near;
   world = refl;
   mcs = refl;
@@ -87,29 +87,31 @@ module _ (bytes : List ℕ) (loaded : Loaded) (order : RunOrder) (verdict : verd
   second_near : is_too_far later.next second ≡ false
   second_near =
       let far = near_of loaded order near in
-      let drifted = drifted_sweeps (length loaded.world.positions) order.seed loaded.mcs (f * order.every) (begun_with loaded.world) refl in
-      let size : length (last_of loaded first).world.positions * (g * order.every) ≡ length loaded.world.positions * (g * order.every) = ap (λ n. n * (g * order.every)) (sym drifted.size) in
-      near_is later.next second (record { time = omega (arith, far.time, sweeps); reach = omega (arith, far.reach, attempts, drifted.near, size) })
+      let grown = grown_sweeps order.linking (length loaded.world.positions) order.seed loaded.mcs (f * order.every) (begun_with loaded.world) refl ok in
+      let size : length (last_of loaded first).world.positions * (g * order.every) ≡ length loaded.world.positions * (g * order.every) = ap (λ n. n * (g * order.every)) (sym grown.size) in
+      near_is later.next second (record { time = omega (arith, far.time, sweeps); reach = omega (arith, far.reach, attempts, grown.near, size) })
 
   -- the run in parts
   pub parts : AreParts loaded kept first second order
   parts =
-      let middle = last_of loaded first in
-      let front = groups_text order.seed order.every loaded.mcs f (begun_with loaded.world) in
-      let back = groups_text order.seed order.every (loaded.mcs + f * order.every) g (begun_with middle.world) in
+      let start = begun_with loaded.world in
+      let middle = begun_with (last_of loaded first).world in
+      let front = groups_text-frames order f loaded.mcs f start in
+      let back = groups_text-frames order g (loaded.mcs + f * order.every) g middle in
+      let both = last_of-parts order loaded.mcs f start g in
       record {
         first_near = first_near;
         goes_on = later;
         second_near = second_near;
         same =
-            ap (λ l. l ++ back) (take_all later.next.kept (run_text loaded first kept) (omega arith))
-            ∙ (append_assoc kept front back
-            ∙ (ap (λ l. kept ++ l) (sym (groups_text-parts order.seed order.every loaded.mcs f (begun_with loaded.world) g))
-            ∙ ap (λ n. kept ++ groups_text order.seed order.every loaded.mcs n (begun_with loaded.world)) all));
+            ap (λ l. l ++ groups_text second (loaded.mcs + f * order.every) g middle) (take_all later.next.kept (run_text loaded first kept) (omega arith))
+            ∙ (append_assoc kept (groups_text first loaded.mcs f start) (groups_text second (loaded.mcs + f * order.every) g middle)
+            ∙ ((λ i. kept ++ (front i ++ back i))
+            ∙ (ap (λ l. kept ++ l) (sym (groups_text-parts order loaded.mcs f start g))
+            ∙ ap (λ n. kept ++ groups_text order loaded.mcs n start) all)));
         time = omega (arith, sweeps);
-        moves =
-            ap (λ (r : Progress). r.accepted) (sym (last_of-parts order.seed order.every loaded.mcs f (begun_with loaded.world) g))
-            ∙ ap (λ n. (last_of loaded (with_frames order n)).accepted) all;
+        moves = ap (λ (r : Progress). r.tally.accepted) (sym both) ∙ ap (λ n. (last_of loaded (with_frames order n)).tally.accepted) all;
+        links = ap (λ (r : Progress). r.tally.links) (sym both) ∙ ap (λ n. (last_of loaded (with_frames order n)).tally.links) all;
       }
 
 pub in_parts : (bytes : List ℕ) (loaded : Loaded) (order : RunOrder) → verdict_of bytes ≡ Ok loaded → IsValid loaded.world → is_too_far loaded order ≡ false

@@ -1,21 +1,19 @@
 -- The weights of contacts and the thresholds that the header of a valid world lists, as they are read.
-use Rattle.std.proofs.Common.{◌≡◌, ℕ, ◌+◌, ◌^◌, ◌<◌, ◌≤◌, ℤ, pos, unsigned_abs, nat_le, false, cond, List, [], ◌∷◌, ◌++◌, map, length, None, Some, refl, sym, ap, ◌∙◌, subst, length-append, arith}
+use Rattle.std.proofs.Common.{◌≡◌, ℕ, ◌^◌, ◌<◌, ◌≤◌, ℤ, pos, unsigned_abs, nat_le, false, cond, List, [], ◌∷◌, ◌++◌, length, None, Some, refl, sym, ap, ◌∙◌, subst, length-append, arith}
 use Rattle.std.specs.List.{All, AllByRecursion}
 use Rattle.std.specs.Result.{result_ok}
 use Rattle.std.proofs.lemmas.Bool.Decides.{nat_tests}
 use Rattle.std.proofs.lemmas.List.Elements.{All-head, All-tail}
-use Rattle.bfm_base.specs.declared.place.P3.{P3}
 use Rattle.bfm_base.specs.declared.cause.Cause.TheVariants.{OutOfLimit}
 use Rattle.contact_table.specs.Contacts.{ContactTable, IsContactTable, no_contacts, pair_number, weight_of}
 use Rattle.contact_table.specs.Entries.{entries_of, with_entries, with_thresholds}
 use Rattle.contact_table.proofs.EntryLemmas.{AllTell, entries_of-tell, thresholds-with_entries, with_thresholds-all, with_entries-push, with_thresholds-push, with_thresholds-with_entries}
-use Rattle.bfm_commands.specs.History.{table_of, with_contact, with_acceptance}
+use Rattle.bfm_commands.specs.History.{with_contact, with_acceptance}
 use Rattle.bfm_commands.specs.Causes.{entered, threshold_cause}
 use Rattle.bfm_commands.specs.declared.commands.Known.TheVariants.{Contacts, Acceptance}
 use Rattle.bfm_commands.specs.declared.owner.Owner.{Owner}
 use Rattle.bfm_commands.specs.declared.owner.Owner.TheVariants.{Command}
 use Rattle.bfm_commands.specs.declared.settings.Given.{Given}
-use Rattle.bfm_session.proofs.ReadBackLines.{IsRow}
 use Rattle.bfm_session.proofs.ReadBackRows.{contact_row, threshold_row}
 use Rattle.bfm_session.proofs.ReadBackEntries.{IsContact, contact_entry-back, threshold_entry-back}
 use Rattle.bfm_session.proofs.ReadBackPlain.{IsRow-contact, IsRow-threshold, begins-contact}

@@ -17,8 +17,8 @@ at_most most n e = grind (arith, nat_tests)
 -- the file had and those of the run.
 pub verdict_of-run : (bytes : List ℕ) (loaded : Loaded) (order : RunOrder) → verdict_of bytes ≡ Ok loaded → IsValid loaded.world → is_too_far loaded order ≡ false
     → verdict_of (run_text loaded order (take loaded.kept bytes))
-    ≡ Ok (with_groups (kept_loaded bytes loaded) order.seed order.every order.frames (length (run_text loaded order (take loaded.kept bytes))))
+    ≡ Ok (with_groups (kept_loaded bytes loaded) order order.frames (length (run_text loaded order (take loaded.kept bytes))))
 verdict_of-run bytes loaded order verdict ok near =
     let limits = or_parts (nat_lt (2 ^ 40) (last_mcs loaded order)) (nat_lt (2 ^ 44) (last_reach loaded order)) near in
-    verdict_of-groups (take loaded.kept bytes) (kept_loaded bytes loaded) (verdict_of-kept bytes loaded verdict) refl ok order.seed order.every order.frames
+    verdict_of-groups (take loaded.kept bytes) (kept_loaded bytes loaded) (verdict_of-kept bytes loaded verdict) refl ok order order.frames
     (at_most (2 ^ 44) (last_reach loaded order) limits.1) (at_most (2 ^ 40) (last_mcs loaded order) limits.0)

@@ -1,7 +1,7 @@
 -- What is written of a world is rows, each with its newline.
 use Rattle.std.proofs.Common.{◌≡◌, ℕ, ◌+◌, ◌<◌, min, max, true, false, not, nat_eq, nat_lt, if◌then◌else◌, List, [], ◌∷◌, ◌++◌, map, codes, decimal, ℤ, refl, sym, ap, ◌∙◌, ⊎_elim, append_assoc, append-nil, arith}
 use Rattle.std.specs.Fmt.{signed_decimal}
-use Rattle.std.specs.List.{flat_map}
+use Rattle.std.specs.List.{AllByRecursion, flat_map}
 use Rattle.std.proofs.lemmas.Bool.{cases_Bool, and_parts}
 use Rattle.std.proofs.lemmas.Bool.Decides.{nat_tests}
 use Rattle.std.proofs.lemmas.List.{map-append}
@@ -11,7 +11,7 @@ use Rattle.bfm_world.specs.Configuration.{Configuration, label_of, valence_of, i
 use Rattle.contact_table.specs.Contacts.{ContactTable}
 use Rattle.contact_table.specs.Entries.{entries_of}
 use Rattle.bfm_writer.specs.Rows.{Row, rows_of}
-use Rattle.bfm_writer.specs.Text.{position_text, ids_text, row_text, time_line, frame_text, bond_line, group_text}
+use Rattle.bfm_writer.specs.Text.{position_text, ids_text, row_text, time_line, frame_text, bond_line, added_text, group_text}
 use Rattle.bfm_writer.specs.Header.{value_line, values_of, listed, vector_line, set_text, monomers_of, is_shown, is_listed, bond_entry, bond_entries, bonds_text, mark_line, mark_entry, labels_text, valences_text, fixed_entry, fixed_text, marks_text, contact_line, contacts_text, threshold_line, acceptance_text, table_text, header_text}
 use Rattle.bfm_session.proofs.ReadBackLines.{text_of, text_of-append}
 
@@ -95,6 +95,13 @@ header_rows w = map value_row (values_of w) ++ list_rows w
 -- the rows of a frame, and all rows of a world with one frame
 abbrev pub frame_rows : Configuration → ℕ → List (List ℕ)
 frame_rows w mcs = time_row mcs ∷ map frame_row (rows_of w)
+
+-- the rows of bonds that are added, and all rows of one more frame
+abbrev pub added_rows : List (ℕ × ℕ) → List (List ℕ)
+added_rows pairs = listed_rows (codes "!add_bonds") (map pair_row pairs)
+
+abbrev pub group_rows : Configuration → ℕ → List (ℕ × ℕ) → List (List ℕ)
+group_rows w mcs pairs = [] ∷ (added_rows pairs ++ frame_rows w mcs)
 
 abbrev pub world_rows : Configuration → ℕ → List (List ℕ)
 world_rows w mcs = header_rows w ++ ([] ∷ frame_rows w mcs)
@@ -214,6 +221,20 @@ frame_text-rows w mcs = ap (λ l. time_line mcs ++ l) (text_of-map frame_row row
 -- one more frame behind others
 pub group_text-rows : (w : Configuration) (mcs : ℕ) → group_text w mcs [] ≡ text_of ([] ∷ frame_rows w mcs)
 group_text-rows w mcs = ap (λ l. 10 ∷ l) (frame_text-rows w mcs)
+
+-- the same where pairs were linked, the lesser number first in each
+bond_lines-rows : (pairs : List (ℕ × ℕ)) → AllByRecursion (λ (pair : ℕ × ℕ). pair.0 < pair.1) pairs → flat_map bond_line pairs ≡ text_of (map pair_row pairs)
+bond_lines-rows [] each = refl
+bond_lines-rows (pair ∷ pairs) each =
+    ap (λ l. l ++ flat_map bond_line pairs) (pair_line-row pair.0 pair.1 each.0) ∙ ap (λ l. (pair_row pair ++ 10 ∷ []) ++ l) (bond_lines-rows pairs each.1)
+
+added_text-rows : (pairs : List (ℕ × ℕ)) → AllByRecursion (λ (pair : ℕ × ℕ). pair.0 < pair.1) pairs → added_text pairs ≡ text_of (added_rows pairs)
+added_text-rows [] each = refl
+added_text-rows (pair ∷ pairs) each = ap (λ l. codes "!add_bonds\n" ++ l) (bond_lines-rows (pair ∷ pairs) each)
+
+pub group_text-added : (w : Configuration) (mcs : ℕ) (pairs : List (ℕ × ℕ)) → AllByRecursion (λ (pair : ℕ × ℕ). pair.0 < pair.1) pairs → group_text w mcs pairs ≡ text_of (group_rows w mcs pairs)
+group_text-added w mcs pairs each =
+    ap (λ l. 10 ∷ l) (both_texts (added_text pairs) (frame_text w mcs) (added_rows pairs) (frame_rows w mcs) (added_text-rows pairs each) (frame_text-rows w mcs))
 
 -- all that is written of a world with one frame
 pub world_text-rows : (w : Configuration) (mcs : ℕ) → header_text w ++ group_text w mcs [] ≡ text_of (world_rows w mcs)

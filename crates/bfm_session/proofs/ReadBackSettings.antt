@@ -8,10 +8,10 @@ use Rattle.bfm_base.specs.declared.place.Shape.{Shape}
 use Rattle.bfm_geom.specs.Difference.{side_of, is_periodic, IsBox}
 use Rattle.bfm_world.specs.Configuration.{Configuration, IsValid, label_of, valence_of, is_fixed}
 use Rattle.bfm_writer.specs.Header.{monomers_of, periodic_value}
-use Rattle.bfm_commands.specs.History.{History, is_same, stands, value_in, value_or_zero, count_in, shape_in, pairs_of, labels_of, valences_of, fixed_of}
+use Rattle.bfm_commands.specs.History.{History, stands, value_in, value_or_zero, count_in, shape_in, pairs_of, labels_of, valences_of, fixed_of}
 use Rattle.bfm_commands.specs.Causes.{some_missing, is_box_too_large, is_beyond, some_range_beyond, some_fixed_beyond, names_beyond}
 use Rattle.bfm_commands.specs.declared.commands.Known.{Known}
-use Rattle.bfm_commands.specs.declared.commands.Known.TheVariants.{NumberOfMonomers, BoxX, BoxY, BoxZ, PeriodicX, PeriodicY, PeriodicZ, SetOfBondVectors, Bonds, Attributes, Valence, Fixed}
+use Rattle.bfm_commands.specs.declared.commands.Known.TheVariants.{NumberOfMonomers, BoxX, BoxY, BoxZ, PeriodicX, PeriodicY, PeriodicZ}
 use Rattle.bfm_session.proofs.ReadBackLines.{each-flat_map, each-map, each-weaker}
 use Rattle.bfm_session.proofs.ReadBackRows.{said_at, listed_marks, fixed_at, listed_fixed, listed_pairs}
 use Rattle.bfm_session.proofs.ReadBackEntries.{single}

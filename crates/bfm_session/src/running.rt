@@ -1,12 +1,14 @@
-ghost use Rattle.std.specs.Prelude.{◌≡◌, ℕ, ◌+◌, ◌*◌, ◌≤◌, List, ◌++◌, length, take, Ok, IfOk};
+ghost use Rattle.std.specs.Prelude.{◌≡◌, ℕ, ◌+◌, ◌*◌, ◌≤◌, List, [], ◌++◌, length, take, Ok, IfOk};
 ghost use Rattle.bond_set.specs.Crossing.{IsFree};
 ghost use Rattle.bfm_base.specs.Account.{Sends, Delivers};
 ghost use Rattle.bfm_base.specs.declared.limits.TheConstants.{MOST_FRAMES, MOST_SWEEPS};
 ghost use Rattle.bfm_world.specs.Configuration.{reach_of};
-ghost use Rattle.sweep_run.specs.Sweep.{after_sweeps, begun_with, NoMoveCrosses};
+ghost use Rattle.crosslink.specs.Log.{IsLogOf, with_pairs};
+ghost use Rattle.sweep_run.specs.Sweep.{begun_with, NoMoveCrosses};
 ghost use Rattle.bfm_commands.specs.Verdict.{verdict_of};
+ghost use Rattle.bfm_writer.specs.Text.{group_text};
 ghost use Rattle.bfm_session.specs.Parts.{GoesInParts, GoesOn};
-ghost use Rattle.bfm_session.specs.Running.{Runs, groups_text, run_text};
+ghost use Rattle.bfm_session.specs.Running.{Runs, after_frames, groups_text, run_text};
 ghost use Rattle.crossing_check.specs.declared.judgement.SetVerdict.{SetVerdict};
 
 use crate::order::RunOrder;
@@ -16,8 +18,10 @@ use bfm_commands::Loaded;
 use bfm_world::{Engine, World};
 use bfm_writer::group;
 use crossing_check::{SetVerdict, verdict};
+use crosslink::BondLog;
 use plain_move::PlainEngine;
-use sweep_run::sweeps;
+use std::alloc::Global;
+use sweep_run::{Tally, sweeps};
 use thiserror::Error;
 
 /// What a finished run tells of itself.
@@ -25,8 +29,8 @@ use thiserror::Error;
 pub struct RunDone {
     /// The last time, in sweeps.
     pub mcs: u64,
-    /// The number of moves that were made.
-    pub accepted: u64,
+    /// How many moves were made, and how many pairs were linked.
+    pub tally: Tally,
     /// Whether the set of bond vectors allows a crossing move.
     pub verdict: SetVerdict,
 }
@@ -41,11 +45,16 @@ pub enum RunFault {
     /// A call of the sink failed.
     #[error("WriteFault")]
     WriteFault,
+    /// Want of memory, before the first byte is written.
+    #[error("Memory")]
+    Memory,
 }
 
 /// Runs a file that was loaded. Writes its kept part, and then a group after each `every` sweeps,
-/// and flushes. It refuses to begin where it would come too far.
+/// with the pairs that were linked in them, and flushes. It refuses to begin where it would come too
+/// far. It takes all its memory before the first byte is written.
 pub fn run<O: Sink>(
+    alloc: Global,
     loaded: Loaded,
     kept: &[u8],
     order: &RunOrder,
@@ -58,8 +67,8 @@ pub fn run<O: Sink>(
 
     // Where the set of bond vectors is free, no move of the run takes a bond through another that shares no monomer with it;
     // nor where the verdict on it says so.
-    ensures uncrossed { IsFree loaded.world.set → NoMoveCrosses order.now.seed loaded.mcs loaded.world }
-    ensures told_free { IfOk result (λ done. done.verdict ≡ SetVerdict.Free → NoMoveCrosses order.now.seed loaded.mcs loaded.world) }
+    ensures uncrossed { IsFree loaded.world.set → NoMoveCrosses order.now.linking order.now.seed loaded.mcs loaded.world }
+    ensures told_free { IfOk result (λ done. done.verdict ≡ SetVerdict.Free → NoMoveCrosses order.now.linking order.now.seed loaded.mcs loaded.world) }
 
     // Where the kept part is that of an accepted file, a run can go on from the output. In whatever two parts the frames are made,
     // the second writes in the end the bytes of the whole run.
@@ -75,11 +84,14 @@ pub fn run<O: Sink>(
     if mcs > u128::from(GREATEST_MCS) || reach > u128::from(RUN_REACH) {
         return Err(RunFault::TooFar { mcs, reach });
     }
+    let Ok(mut log) = BondLog::new(alloc, loaded.world.len()) else {
+        return Err(RunFault::Memory);
+    };
     let verdict = verdict(loaded.world.set());
-    match frames(loaded.world, loaded.mcs, kept, order, output) {
-        Ok(accepted) => Ok(RunDone {
+    match frames(loaded.world, loaded.mcs, kept, order, &mut log, output) {
+        Ok(tally) => Ok(RunDone {
             mcs: loaded.mcs + sweeps,
-            accepted,
+            tally,
             verdict,
         }),
         Err(_) => Err(RunFault::WriteFault),
@@ -87,46 +99,78 @@ pub fn run<O: Sink>(
 }
 
 /// Writes the kept part and the groups of a run that does not come too far, and flushes. Answers how
-/// many moves were made.
+/// many moves were made and pairs linked.
 fn frames<O: Sink>(
     world: World,
     mcs: u64,
     kept: &[u8],
     order: &RunOrder,
+    log: &mut BondLog,
     output: &mut O,
-) -> Result<u64, Failed>
+) -> Result<Tally, Failed>
     requires last { mcs + order.now.frames * order.now.every ≤ GREATEST_MCS }
     requires reach { reach_of world.positions + length world.positions * (order.now.frames * order.now.every) ≤ RUN_REACH }
+    requires log { IsLogOf world log.old }
+    requires empty { log.old.pairs ≡ [] }
     ensures written { Delivers result (O.account output.old) (O.account output.new)
-        (kept.now ++ groups_text order.now.seed order.now.every mcs order.now.frames (begun_with world)) }
-    ensures accepted { IfOk result (λ accepted. accepted
-        ≡ (after_sweeps order.now.seed mcs (order.now.frames * order.now.every) (begun_with world)).accepted) }
+        (kept.now ++ groups_text order.now mcs order.now.frames (begun_with world)) }
+    ensures tally { IfOk result (λ tally. tally ≡ (after_frames order.now mcs order.now.frames (begun_with world)).tally) }
 {
     send(output, kept)?;
-    let accepted = groups(&mut PlainEngine::new(world), mcs, order, output)?;
+    let tally = groups(&mut PlainEngine::new(world), mcs, order, log, output)?;
     output.flush()?;
-    Ok(accepted)
+    Ok(tally)
 }
 
-/// Makes the sweeps of a run, and writes its groups. Answers how many moves were made.
+/// Makes the sweeps of a run, and writes its groups. Answers how many moves were made and pairs
+/// linked.
 fn groups<E: Engine, O: Sink>(
     engine: &mut E,
     mcs: u64,
     order: &RunOrder,
+    log: &mut BondLog,
     output: &mut O,
-) -> Result<u64, Failed>
+) -> Result<Tally, Failed>
     requires last { mcs + order.now.frames * order.now.every ≤ GREATEST_MCS }
     requires reach { reach_of (E.configuration engine.old).positions + length (E.configuration engine.old).positions * (order.now.frames * order.now.every) ≤ RUN_REACH }
+    requires log { IsLogOf (E.configuration engine.old) log.old }
+    requires empty { log.old.pairs ≡ [] }
     ensures sent { Sends result (O.account output.old) (O.account output.new)
-        (groups_text order.now.seed order.now.every mcs order.now.frames (begun_with (E.configuration engine.old))) }
-    ensures accepted { IfOk result (λ accepted. accepted
-        ≡ (after_sweeps order.now.seed mcs (order.now.frames * order.now.every) (begun_with (E.configuration engine.old))).accepted) }
+        (groups_text order.now mcs order.now.frames (begun_with (E.configuration engine.old))) }
+    ensures tally { IfOk result (λ tally. tally ≡ (after_frames order.now mcs order.now.frames (begun_with (E.configuration engine.old))).tally) }
 {
-    let mut accepted = 0;
+    let mut tally = Tally {
+        accepted: 0,
+        links: 0,
+    };
     for frame in 0..order.frames {
         let first = mcs + frame * order.every;
-        accepted += sweeps(engine, order.seed, first, order.every);
-        group(engine.world(), first + order.every, &[], output)?;
+        sweeps(
+            engine,
+            order.seed,
+            first,
+            order.every,
+            order.linking,
+            log,
+            &mut tally,
+        );
+        write_group(engine, first + order.every, log, output)?;
     }
-    Ok(accepted)
+    Ok(tally)
+}
+
+/// Writes the world that an engine holds with the pairs that were linked since the group before, and
+/// clears the log.
+fn write_group<E: Engine, O: Sink>(
+    engine: &E,
+    mcs: u64,
+    log: &mut BondLog,
+    output: &mut O,
+) -> Result<(), Failed>
+    ensures sent { Sends result (O.account output.old) (O.account output.new) (group_text (E.configuration engine.now) mcs log.old.pairs) }
+    ensures cleared { IfOk result (λ _. log.new ≡ with_pairs log.old []) }
+{
+    group(engine.world(), mcs, log.pairs(), output)?;
+    log.clear();
+    Ok(())
 }

@@ -1,7 +1,7 @@
 use Rattle.std.proofs.Common.{◌≡◌, ◌∙◌, true, false, is_some, ◌+◌, drop, sym, ap, map, string_bytes}
 use Rattle.bfm_cli.specs.Keys.{key_of}
-use Rattle.bfm_cli.specs.Words.{given, given_by}
-use Rattle.bfm_cli.proofs.WordLemmas.{next_text, given_by-here, given_by-later}
+use Rattle.bfm_cli.specs.Words.{first_of, given}
+use Rattle.bfm_cli.proofs.WordLemmas.{next_text, first_of-here, first_of-later}
 use Rattle.bfm_cli.proofs.words.given_by.Goals as goal
 
 pub returns-then-is_some-clause-number : goal.returns-then-is_some-clause-number
@@ -10,7 +10,7 @@ returns-then-is_some-clause-number c =
     let word = c.as_str.result.now in
     let next = next_text string_bytes c.args.words.now c.loop-word.word-index c.word-item.result word c.loop-word-test.true c.word-item.is c.as_str.ensures.value in
     let some : is_some (given key word) ≡ true = ap is_some (sym c.given-number.ensures.number) ∙ (sym c.is_some.ensures ∙ c.if-is_some.true) in
-    c.given-number.ensures.number ∙ (sym (given_by-here key word (drop (c.loop-word.word-index + 1) (map string_bytes c.args.words.now)) some) ∙ (ap (given_by key) (sym next) ∙ c.loop-word.invariant))
+    c.given-number.ensures.number ∙ (sym (first_of-here (given key) word (drop (c.loop-word.word-index + 1) (map string_bytes c.args.words.now)) some) ∙ (ap (first_of (given key)) (sym next) ∙ c.loop-word.invariant))
 
 pub loop-word-preserved : goal.loop-word-preserved
 loop-word-preserved c =
@@ -18,4 +18,4 @@ loop-word-preserved c =
     let word = c.as_str.result.now in
     let next = next_text string_bytes c.args.words.now c.loop-word.word-index c.word-item.result word c.loop-word-test.true c.word-item.is c.as_str.ensures.value in
     let none : is_some (given key word) ≡ false = ap is_some (sym c.given-number.ensures.number) ∙ (sym c.is_some.ensures ∙ c.if-is_some.false) in
-    sym (given_by-later key word (drop (c.loop-word.word-index + 1) (map string_bytes c.args.words.now)) none) ∙ (ap (given_by key) (sym next) ∙ c.loop-word.invariant)
+    sym (first_of-later (given key) word (drop (c.loop-word.word-index + 1) (map string_bytes c.args.words.now)) none) ∙ (ap (first_of (given key)) (sym next) ∙ c.loop-word.invariant)

@@ -1,24 +1,23 @@
-use Rattle.std.proofs.Common.{◌∙◌, ◌+◌, [], None, drop, get_or, sym, ap, map, string_bytes}
-use Rattle.bfm_cli.specs.Keys.{key_of}
-use Rattle.bfm_cli.specs.Words.{is_right}
-use Rattle.bfm_cli.specs.declared.words.Key.{Key as KeyInCode}
-use Rattle.bfm_cli.proofs.WordLemmas.{next_of, is_right-here, is_right-later}
+use Rattle.std.proofs.Common.{◌≡◌, ◌∙◌, ◌||◌, true, false, sym, ap, map, string_bytes}
+use Rattle.std.specs.List.{list_any}
+use Rattle.bfm_cli.specs.Keys.{key_of, switch_of}
+use Rattle.bfm_cli.specs.Words.{gives_first, sets_first}
+use Rattle.bfm_cli.proofs.WordLemmas.{list_any-map}
 use Rattle.bfm_cli.proofs.words.is_right.Goals as goal
 
-pub returns-then-is_first : goal.returns-then-is_first
-returns-then-is_first c =
+pub returns-then-gives_one : goal.returns-then-gives_one
+returns-then-gives_one c =
     let before = map string_bytes c.args.before.now in
-    let none : KeyInCode = record { name = record { ref_ptr = (0, 0); now = [] }; least = 0; greatest = 0; usual = None } in
-    let key = key_of (get_or c.args.keys.now c.loop-key.key-index none) in
-    let keys = drop (c.loop-key.key-index + 1) (map key_of c.args.keys.now) in
-    let next = next_of key_of c.args.keys.now c.loop-key.key-index none c.loop-key-test.true in
-    sym (is_right-here key keys before c.args.word.now (sym c.is_first.ensures ∙ c.if-is_first.true)) ∙ (ap (λ keys. is_right keys before c.args.word.now) (sym next) ∙ c.loop-key.invariant)
+    let word = c.args.word.now in
+    let some : list_any (gives_first before word) (map key_of c.args.keys.now) ≡ true =
+    list_any-map key_of (gives_first before word) c.args.keys.now ∙ (sym c.gives_one.ensures ∙ c.if-gives_one.true) in
+    c.if-gives_one.true ∙ sym (ap (λ b. b || list_any (sets_first before word) (map switch_of c.args.switches.now)) some)
 
-pub loop-key-preserved : goal.loop-key-preserved
-loop-key-preserved c =
+pub returns-else-gives_one : goal.returns-else-gives_one
+returns-else-gives_one c =
     let before = map string_bytes c.args.before.now in
-    let none : KeyInCode = record { name = record { ref_ptr = (0, 0); now = [] }; least = 0; greatest = 0; usual = None } in
-    let key = key_of (get_or c.args.keys.now c.loop-key.key-index none) in
-    let keys = drop (c.loop-key.key-index + 1) (map key_of c.args.keys.now) in
-    let next = next_of key_of c.args.keys.now c.loop-key.key-index none c.loop-key-test.true in
-    sym (is_right-later key keys before c.args.word.now (sym c.is_first.ensures ∙ c.if-is_first.false)) ∙ (ap (λ keys. is_right keys before c.args.word.now) (sym next) ∙ c.loop-key.invariant)
+    let word = c.args.word.now in
+    let none : list_any (gives_first before word) (map key_of c.args.keys.now) ≡ false =
+    list_any-map key_of (gives_first before word) c.args.keys.now ∙ (sym c.gives_one.ensures ∙ c.if-gives_one.false) in
+    c.sets_one.ensures ∙ (sym (list_any-map switch_of (sets_first before word) c.args.switches.now)
+    ∙ sym (ap (λ b. b || list_any (sets_first before word) (map switch_of c.args.switches.now)) none))

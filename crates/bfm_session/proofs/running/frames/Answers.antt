@@ -11,29 +11,29 @@ pub returns-in_err-send-clause-written : goal.returns-in_err-send-clause-written
 returns-in_err-send-clause-written g c =
     let p = err_from_is_err_and c.from_residual.result c.from_residual.ensures.1 in
     let order = c.args.order.now in
-    rw p.1 (TookPrefix-append _ _ _ (groups_text order.seed order.every c.args.mcs order.frames (begun_with c.args.world)) c.in_err-send.ensures.sent)
+    rw p.1 (TookPrefix-append _ _ _ (groups_text order c.args.mcs order.frames (begun_with c.args.world)) c.in_err-send.ensures.sent)
 
-pub returns-in_err-accepted-clause-written : goal.returns-in_err-accepted-clause-written
-returns-in_err-accepted-clause-written g c =
-    let p = err_from_is_err_and c.from_residual-in_err-accepted.result c.from_residual-in_err-accepted.ensures.1 in
+pub returns-in_err-tally-clause-written : goal.returns-in_err-tally-clause-written
+returns-in_err-tally-clause-written g c =
+    let p = err_from_is_err_and c.from_residual-in_err-tally.result c.from_residual-in_err-tally.ensures.1 in
     let order = c.args.order.now in
-    let text = λ (w : Configuration). c.args.kept.now ++ groups_text order.seed order.every c.args.mcs order.frames (begun_with w) in
-    let part = TookPrefix-later _ _ _ _ _ c.in_ok-send.ensures.sent c.in_err-accepted.ensures.sent in
+    let text = λ (w : Configuration). c.args.kept.now ++ groups_text order c.args.mcs order.frames (begun_with w) in
+    let part = TookPrefix-later _ _ _ _ _ c.in_ok-send.ensures.sent c.in_err-tally.ensures.sent in
     rw p.1 (subst (TookPrefix (g.O.Sink.account c.args.output.now) (g.O.Sink.account c.groups.new.output)) (ap text c.new.ensures) part)
 
 pub returns-in_err-flush-clause-written : goal.returns-in_err-flush-clause-written
 returns-in_err-flush-clause-written g c =
     let p = err_from_is_err_and c.from_residual-in_err-flush.result c.from_residual-in_err-flush.ensures.1 in
     let order = c.args.order.now in
-    let text = λ (w : Configuration). c.args.kept.now ++ groups_text order.seed order.every c.args.mcs order.frames (begun_with w) in
-    let all = TookAll-append _ _ _ _ _ c.in_ok-send.ensures.sent c.in_ok-accepted.ensures.sent in
+    let text = λ (w : Configuration). c.args.kept.now ++ groups_text order c.args.mcs order.frames (begun_with w) in
+    let all = TookAll-append _ _ _ _ _ c.in_ok-send.ensures.sent c.in_ok-tally.ensures.sent in
     let failed = TookPrefix-flushed _ _ _ _ all c.in_err-flush.ensures.failed in
     rw p.1 (subst (TookPrefix (g.O.Sink.account c.args.output.now) (g.O.Sink.account c.flush.new.self)) (ap text c.new.ensures) failed)
 
 pub returns-clause-written : goal.returns-clause-written
 returns-clause-written g c =
     let order = c.args.order.now in
-    let text = λ (w : Configuration). c.args.kept.now ++ groups_text order.seed order.every c.args.mcs order.frames (begun_with w) in
-    let all = TookAll-append _ _ _ _ _ c.in_ok-send.ensures.sent c.in_ok-accepted.ensures.sent in
+    let text = λ (w : Configuration). c.args.kept.now ++ groups_text order c.args.mcs order.frames (begun_with w) in
+    let all = TookAll-append _ _ _ _ _ c.in_ok-send.ensures.sent c.in_ok-tally.ensures.sent in
     let done = Delivered-flushed _ _ _ _ all c.in_ok-flush.ensures.flushed in
     subst (Delivered (g.O.Sink.account c.args.output.now) (g.O.Sink.account c.flush.new.self)) (ap text c.new.ensures) done

@@ -9,27 +9,30 @@ use Rattle.bfm_session.proofs.PartsRun.{goes_on, in_parts}
 use Rattle.bfm_session.proofs.running.run.Goals as goal
 
 pub returns-then-mcs-from-clause-uncrossed : goal.returns-then-mcs-from-clause-uncrossed
-returns-then-mcs-from-clause-uncrossed g c free = NoMoveCrosses-free c.args.order.now.seed c.args.loaded.mcs c.args.loaded.world c.len.ensures.valid free
+returns-then-mcs-from-clause-uncrossed g c free = NoMoveCrosses-free c.args.order.now.linking c.args.order.now.seed c.args.loaded.mcs c.args.loaded.world c.len.ensures.valid free
 
-pub returns-in-Ok-clause-uncrossed : goal.returns-in-Ok-clause-uncrossed
-returns-in-Ok-clause-uncrossed g c free = NoMoveCrosses-free c.args.order.now.seed c.args.loaded.mcs c.args.loaded.world c.len.ensures.valid free
+pub returns-in_default-clause-uncrossed : goal.returns-in_default-clause-uncrossed
+returns-in_default-clause-uncrossed g c free = NoMoveCrosses-free c.args.order.now.linking c.args.order.now.seed c.args.loaded.mcs c.args.loaded.world c.len.ensures.valid free
 
-pub returns-in-Ok-clause-told_free : goal.returns-in-Ok-clause-told_free
-returns-in-Ok-clause-told_free g c told =
+pub returns-in-Ok-frames-clause-uncrossed : goal.returns-in-Ok-frames-clause-uncrossed
+returns-in-Ok-frames-clause-uncrossed g c free = NoMoveCrosses-free c.args.order.now.linking c.args.order.now.seed c.args.loaded.mcs c.args.loaded.world c.len.ensures.valid free
+
+pub returns-in-Ok-frames-clause-told_free : goal.returns-in-Ok-frames-clause-told_free
+returns-in-Ok-frames-clause-told_free g c told =
     let judged = subst (IsVerdict c.set.result.now) told c.verdict-verdict.ensures.verdict in
     let free : IsFree c.args.loaded.world.set = subst IsFree c.set.ensures judged in
-    NoMoveCrosses-free c.args.order.now.seed c.args.loaded.mcs c.args.loaded.world c.len.ensures.valid free
+    NoMoveCrosses-free c.args.order.now.linking c.args.order.now.seed c.args.loaded.mcs c.args.loaded.world c.len.ensures.valid free
 
 pub returns-clause-uncrossed : goal.returns-clause-uncrossed
-returns-clause-uncrossed g c free = NoMoveCrosses-free c.args.order.now.seed c.args.loaded.mcs c.args.loaded.world c.len.ensures.valid free
+returns-clause-uncrossed g c free = NoMoveCrosses-free c.args.order.now.linking c.args.order.now.seed c.args.loaded.mcs c.args.loaded.world c.len.ensures.valid free
 
-pub returns-in-Ok-clause-goes_on : goal.returns-in-Ok-clause-goes_on
-returns-in-Ok-clause-goes_on g c bytes verdict part =
+pub returns-in-Ok-frames-clause-goes_on : goal.returns-in-Ok-frames-clause-goes_on
+returns-in-Ok-frames-clause-goes_on g c bytes verdict part =
     let near : is_too_far c.args.loaded c.args.order.now ≡ false = grind (arith, nat_tests) in
     subst (λ kept. GoesOn c.args.loaded c.args.order.now (run_text c.args.loaded c.args.order.now kept)) (sym part)
     (goes_on bytes c.args.loaded c.args.order.now verdict c.len.ensures.valid near)
 
-pub returns-in-Ok-clause-in_parts : goal.returns-in-Ok-clause-in_parts
-returns-in-Ok-clause-in_parts g c bytes verdict part =
+pub returns-in-Ok-frames-clause-in_parts : goal.returns-in-Ok-frames-clause-in_parts
+returns-in-Ok-frames-clause-in_parts g c bytes verdict part =
     let near : is_too_far c.args.loaded c.args.order.now ≡ false = grind (arith, nat_tests) in
     subst (GoesInParts c.args.loaded c.args.order.now) (sym part) (in_parts bytes c.args.loaded c.args.order.now verdict c.len.ensures.valid near)
