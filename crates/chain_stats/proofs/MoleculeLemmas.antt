@@ -5,17 +5,17 @@ use Rattle.std.proofs.lemmas.Bool.Decides.{nat_tests}
 use Rattle.std.proofs.lemmas.List.Elements.{All-map, All-filter, All-head, All-tail, All-contains, Contains-get_or, All-from_recursion, filter_passes}
 use Rattle.std.proofs.lemmas.List.FromFn.{length-range_with_len, get_or-range_with_len}
 use Rattle.bond_set.proofs.ListLemmas.{Contains-map, Contains-filter}
-use Rattle.bfm_world.specs.Bonds.{AreBonds, IsAscending}
+use Rattle.bfm_world.specs.Bonds.{IsAscending}
 use Rattle.bfm_world.specs.Configuration.{Configuration}
 use Rattle.chain_stats.specs.Molecules.{AreJoined, IsWay, first_of, IsMolecule, AreMolecules}
 use Rattle.chain_stats.specs.Search.{root_of, AreSearched, is_root, members_below, roots_below, groups_of}
 use Rattle.chain_stats.proofs.GroupLemmas.{range_below, roots_within}
-use Rattle.chain_stats.proofs.SearchLemmas.{Contains-cons_cases, no_member}
+use Rattle.chain_stats.proofs.SearchLemmas.{AreMutual, Contains-cons_cases, no_member}
 
-same_numbers : (m n : ℕ) → nat_eq m n ≡ true → m ≡ n
+pub same_numbers : (m n : ℕ) → nat_eq m n ≡ true → m ≡ n
 same_numbers m n h = grind (arith, nat_tests)
 
-same_test : (m n : ℕ) → m ≡ n → nat_eq m n ≡ true
+pub same_test : (m n : ℕ) → m ≡ n → nat_eq m n ≡ true
 same_test m n h = grind (arith, nat_tests)
 
 -- numbers that are kept of a range are no less than its first
@@ -50,7 +50,7 @@ first_of-least (x ∷ xs) r a h l =
     omega arith))
     (Contains-cons_cases x xs r h)
 
-in_range : (n i : ℕ) → i < n → Contains (range_with_len 0 n) i
+pub in_range : (n i : ℕ) → i < n → Contains (range_with_len 0 n) i
 in_range n i l = (i, omega (arith, length-range_with_len 0 n), omega (arith, get_or-range_with_len 0 n i i l))
 
 -- the members of a group, and only these, have its root
@@ -64,7 +64,7 @@ pub root_from_member : (roots : List ℕ) (n r i : ℕ) → Contains (members_be
 root_from_member roots n r i h =
     same_numbers (root_of roots i) r (All-contains (λ j. nat_eq (root_of roots j) r ≡ true) (members_below roots n r) i (filter_passes (λ j. nat_eq (root_of roots j) r) (range_with_len 0 n)) h)
 
-module _ (w : Configuration) (roots : List ℕ) (a : AreSearched w.bonds (length w.positions) (length w.positions) roots) (bonded : AreBonds (length w.positions) w.bonds) where
+module _ (w : Configuration) (roots : List ℕ) (a : AreSearched w.bonds (length w.positions) (length w.positions) roots) (bonded : AreMutual (length w.positions) w.bonds) where
   abbrev count : ℕ
   count = length w.positions
 
@@ -75,10 +75,10 @@ module _ (w : Configuration) (roots : List ℕ) (a : AreSearched w.bonds (length
   along : (i : ℕ) (way : List ℕ) (j : ℕ) → i < count → IsWay w.bonds i way j → (j < count) × (root_of roots j ≡ root_of roots i)
   along i [] j l h = (omega arith, ap (root_of roots) (sym h))
   along i (k ∷ ks) j l h =
-      let rest = along k ks j (bonded.others i k h.0).0 h.1 in
+      let rest = along k ks j (bonded.others i k h.0) h.1 in
       (rest.0, rest.1 ∙ a.closed i k (l, root_below i l) h.0)
 
-  root_root : (i : ℕ) → i < count → root_of roots (root_of roots i) ≡ root_of roots i
+  pub root_root : (i : ℕ) → i < count → root_of roots (root_of roots i) ≡ root_of roots i
   root_root i l =
       let j = a.found.joined i (l, root_below i l) in
       sym ((along (root_of roots i) j.0 i (root_below i l) j.1).1)

@@ -11,6 +11,14 @@ use Rattle.bfm_world.specs.Bonds.{are_bonded, AreBonds}
 use Rattle.chain_stats.specs.Molecules.{AreJoined, IsWay}
 use Rattle.chain_stats.specs.Search.{root_of, IsFound, missing, AreSearched, IsSpreading}
 
+-- each neighbour is a monomer, and has the other as its neighbour too
+pub record AreMutual (count : ℕ) (bonds : List (List ℕ)) : Type 0 where
+  pub both : (i j : ℕ) → are_bonded bonds i j ≡ true → are_bonded bonds j i ≡ true
+  pub others : (i j : ℕ) → are_bonded bonds i j ≡ true → j < count
+
+pub AreMutual-bonds : (count : ℕ) (bonds : List (List ℕ)) → AreBonds count bonds → AreMutual count bonds
+AreMutual-bonds count bonds b = record { both = b.both; others = λ i j h. (b.others i j h).0 }
+
 -- one bond more at the end of a way
 way_more : (bonds : List (List ℕ)) (i : ℕ) (way : List ℕ) (j k : ℕ) → IsWay bonds i way j → are_bonded bonds j k ≡ true → IsWay bonds i (way ++ k ∷ []) k
 way_more bonds i [] j k h b = (subst (λ (n : ℕ). are_bonded bonds n k ≡ true) (sym h) b, refl)
@@ -197,13 +205,13 @@ module _ (bonds : List (List ℕ)) (count number : ℕ) (s : number < count) whe
     }
 
   -- all neighbours of a monomer are found: it waits no more
-  pub IsSpreading-done : (roots waiting : List ℕ) (i : ℕ) → AreBonds count bonds → IsSpreading bonds count number roots (i ∷ waiting)
+  pub IsSpreading-done : (roots waiting : List ℕ) (i : ℕ) → AreMutual count bonds → IsSpreading bonds count number roots (i ∷ waiting)
       → ((j : ℕ) → are_bonded bonds i j ≡ true → root_of roots j < count) → IsSpreading bonds count number roots waiting
   IsSpreading-done roots waiting i bonded f found =
       let own : (i < count) × (root_of roots i ≡ number) = All-head (λ (k : ℕ). (k < count) × (root_of roots k ≡ number)) i waiting f.waits in
       let same : (j : ℕ) → are_bonded bonds i j ≡ true → root_of roots j ≡ number =
       λ j b.
-      let there : j < count = (bonded.others i j b).0 in
+      let there : j < count = bonded.others i j b in
       ⊎_elim
       (λ h. absurd (let q = f.closed j i there h (bonded.both i j b) in omega (arith, own.1)))
       (λ h. omega (arith, f.limit j (there, found j b)))

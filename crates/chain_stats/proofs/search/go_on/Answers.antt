@@ -4,7 +4,7 @@ use Rattle.std.proofs.lemmas.List.{length_push}
 use Rattle.std.proofs.lemmas.List.Elements.{Contains-get_or}
 use Rattle.bfm_world.specs.Bonds.{neighbours_of, are_bonded}
 use Rattle.chain_stats.specs.Search.{root_of}
-use Rattle.chain_stats.proofs.SearchLemmas.{IsSpreading-reached, IsSpreading-done, missing-set, reached_by, reached_more, reached_still}
+use Rattle.chain_stats.proofs.SearchLemmas.{AreMutual-bonds, IsSpreading-reached, IsSpreading-done, missing-set, reached_by, reached_more, reached_still}
 use Rattle.chain_stats.proofs.search.go_on.Goals as goal
 use Rattle.chain_stats.proofs.search.go_on.Goals.{then-roots-j+in_ok-push, else-roots-j}
 
@@ -47,7 +47,8 @@ loop-j-preserved c =
 
 pub returns-clause-spreading : goal.returns-clause-spreading
 returns-clause-spreading c =
-    IsSpreading-done c.args.world.now.bonds (length c.args.world.now.positions) c.args.number c.requires.monomer c.loop-j.roots c.loop-j.waiting.items c.args.i c.len-count.ensures.valid.bonds c.loop-j.invariant.spreading
+    IsSpreading-done c.args.world.now.bonds (length c.args.world.now.positions) c.args.number c.requires.monomer c.loop-j.roots c.loop-j.waiting.items c.args.i
+    (AreMutual-bonds (length c.args.world.now.positions) c.args.world.now.bonds c.len-count.ensures.valid.bonds) c.loop-j.invariant.spreading
     (λ j b.
     let h = (c.neighbours-j-items.ensures.listed j).1 b in
     reached_by (length c.args.world.now.positions) c.loop-j.roots (neighbours_of c.args.world.now.bonds c.args.i) j

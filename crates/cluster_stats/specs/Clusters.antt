@@ -1,0 +1,36 @@
+-- The clusters of a world: the sets of all monomers that lists join whose successive members are in contact. Monomers are
+-- counted from 0.
+use Rattle.std.specs.Prelude.{◌≡◌, ℕ, ◌≤◌, nat_eq, List, length, map, filter, All, Contains, count_by}
+use Rattle.std.specs.List.{range_with_len}
+use Rattle.bfm_world.specs.Bonds.{IsAscending}
+use Rattle.bfm_world.specs.Configuration.{Configuration}
+use Rattle.chain_stats.specs.Molecules.{AreMolecules}
+use Rattle.cluster_stats.specs.Contacts.{touch}
+
+-- for each monomer those that are in contact with it, in ascending order
+abbrev pub contact_lists : Configuration → List (List ℕ)
+contact_lists w =
+    let monomers = range_with_len 0 (length w.positions) in
+    map (λ i. filter (touch w i) monomers) monomers
+
+-- the clusters of a world, in order of their least monomers: they are what its molecules would be if its contacts were its bonds
+abbrev pub AreClusters : Configuration → List (List ℕ) → Type 0
+AreClusters w clusters = AreMolecules (record w { bonds = contact_lists w }) clusters
+
+-- how many of some clusters have this size
+abbrev pub number_of_size : List (List ℕ) → ℕ → ℕ
+number_of_size clusters size = count_by (λ cluster. nat_eq (length cluster) size) clusters
+
+-- the sizes that stand in rows of size and number
+abbrev pub sizes_in : List (ℕ × ℕ) → List ℕ
+sizes_in rows = map (λ row. row.0) rows
+
+-- each row has a size and how many clusters have it, at least one; sizes ascend, and the size of each cluster has a row
+pub record AreSizes (clusters : List (List ℕ)) (rows : List (ℕ × ℕ)) : Type 0 where
+  pub counted : All (λ row. (1 ≤ row.1) × (row.1 ≡ number_of_size clusters row.0)) rows
+  pub ascending : IsAscending (sizes_in rows)
+  pub all : All (λ cluster. Contains (sizes_in rows) (length cluster)) clusters
+
+-- the sizes of the clusters of a world, and how many have each
+abbrev pub AreClusterSizes : Configuration → List (ℕ × ℕ) → Type 0
+AreClusterSizes w rows = (clusters : List (List ℕ)) × AreClusters w clusters × AreSizes clusters rows

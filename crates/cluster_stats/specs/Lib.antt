@@ -1,0 +1,4 @@
+pub mod Clusters
+pub mod Contacts
+pub mod Places
+pub mod Rows
