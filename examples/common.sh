@@ -95,6 +95,15 @@ build_start() {
     fi
 }
 
+# insert_lines LINES FILE: puts the lines of one file into the header of start.bfm, right before its first frame,
+# and writes that as the other file, where it does not stand yet.
+insert_lines() {
+    if [ ! -e "$folder/$2" ]; then
+        awk -v lines="$folder/$1" -f "$here/../insert.awk" "$folder/start.bfm" > "$folder/$2.part"
+        mv "$folder/$2.part" "$folder/$2"
+    fi
+}
+
 # begin_from START FILE: begins a trajectory with a start, where it does not stand yet.
 begin_from() {
     if [ ! -e "$folder/$2" ]; then
@@ -126,25 +135,29 @@ check_whole() {
     fi
 }
 
-# advance FILE LAST WHAT: goes on with a trajectory to the time LAST, in parts of `part` frames. A part
-# is written beside the file and takes its place once it is whole, so a stop loses no more than one
-# part. The parts come to the bytes of one run, since `seed` and `every` stay.
+# advance FILE LAST WHAT WORDS..: goes on with a trajectory to the time LAST, in parts of `part` frames. A
+# part is written beside the file and takes its place once it is whole, so a stop loses no more than one
+# part. The parts come to the bytes of one run, since `seed`, `every` and further words of the run stay.
 advance() {
-    check_whole "$1"
-    time=$(fact mcs "$1")
-    while [ "$time" -lt "$2" ]; do
-        frames=$((($2 - time) / every))
+    trajectory=$1
+    until=$2
+    what=$3
+    shift 3
+    check_whole "$trajectory"
+    time=$(fact mcs "$trajectory")
+    while [ "$time" -lt "$until" ]; do
+        frames=$(((until - time) / every))
         if [ "$frames" -gt "$part" ]; then
             frames=$part
         fi
         if [ "$frames" -eq 0 ]; then
-            fail "$folder/$1 stands at $time, from where no whole number of $every sweeps leads to $2"
+            fail "$folder/$trajectory stands at $time, from where no whole number of $every sweeps leads to $until"
         fi
-        job "$folder/$1" run "seed=$seed" "frames=$frames" "every=$every" > "$folder/$1.part"
-        mv "$folder/$1.part" "$folder/$1"
+        job "$folder/$trajectory" run "seed=$seed" "frames=$frames" "every=$every" "$@" > "$folder/$trajectory.part"
+        mv "$folder/$trajectory.part" "$folder/$trajectory"
         mv "$folder/report.part" "$folder/report.txt"
-        time=$(fact mcs "$1")
-        say "$3: $time of $2 sweeps"
+        time=$(fact mcs "$trajectory")
+        say "$what: $time of $until sweeps"
     done
 }
 

@@ -58,15 +58,32 @@ ends_with "a small strength" 1 "more than 1024" awk -v strength=0.02 -f "$here/c
 # Lines in a header: all other bytes stay, and a frame line that looks like a command does no harm.
 printf '!bfm_contacts\n1 2:1\n' > "$work/lines"
 { head -n 7 "$work/small"; cat "$work/lines"; tail -n +8 "$work/small"; } > "$work/wanted"
-awk -v lines="$work/lines" -f "$here/copolymer/insert.awk" "$work/small" > "$work/found"
+awk -v lines="$work/lines" -f "$here/insert.awk" "$work/small" > "$work/found"
 same "lines in a header" "$(cksum < "$work/found")" "$(cksum < "$work/wanted")"
 ends_with "missing lines" 1 "there is no file" \
-    awk -v lines="$work/none" -f "$here/copolymer/insert.awk" "$work/small"
+    awk -v lines="$work/none" -f "$here/insert.awk" "$work/small"
+
+# Molecules of four chains of two monomers. Of 8 sites 2 have reacted in frame 6 and 6 in frame 8; with four sites a
+# chain and p = 3/8 the theory's v is (sqrt(23/3) - 1) / 2 = 0.884437, and 1 - v^4 = 0.388111.
+printf '!number_of_monomers=8\n!bonds\n1 2\n!mcs=5\n1 2 3 a\n\n!add_bonds\n1 5\n!mcs=6\n1 2 3\n' > "$work/linking"
+printf '\n!mcs=7\n1 2 3\n\n!add_bonds\n3 7\n4 8\n!mcs=8\n3 4 5 aaa\n' >> "$work/linking"
+same "molecules" "$(awk -f "$here/gel/gel.awk" chains=4 length_of=2 sites=2 warm=6 "$work/linking" | tr -s ' \n' ' ,')" \
+    " # mcs links p molecules largest ideal others weighed, 6 1 0.250 3 0.500 0.000 2.0 2.0,\
+ 7 1 0.250 3 0.500 0.000 2.0 2.0, 8 3 0.750 2 0.500 0.000 4.0 4.0,"
+same "the theory" "$(awk -f "$here/gel/gel.awk" chains=4 length_of=2 sites=4 warm=8 "$work/linking" | tail -n 1 | tr -s ' ')" \
+    " 8 3 0.375 2 0.500 0.388 4.0 4.0"
+ends_with "a warm-up without end" 1 "no frame from the end" \
+    awk -f "$here/gel/gel.awk" chains=4 length_of=2 sites=2 warm=9 "$work/linking"
+ends_with "other chains" 1 "not as many monomers" \
+    awk -f "$here/gel/gel.awk" chains=3 length_of=2 sites=2 warm=6 "$work/linking"
+printf '\n!remove_bonds\n3 7\n' >> "$work/linking"
+ends_with "a bond that goes" 1 "taken away" \
+    awk -f "$here/gel/gel.awk" chains=4 length_of=2 sites=2 warm=6 "$work/linking"
 
 # What each example refuses, without a call of the program.
 mkdir "$work/foreign"
 echo kept > "$work/foreign/trajectory.bfm"
-for example in melt brush network copolymer; do
+for example in melt brush network copolymer gel; do
     run=$here/$example/run.sh
     ends_with "$example without a program" 1 "there is no program" env BFM_CLI="$work/none" sh "$run" "$work/new"
     ends_with "$example in a foreign folder" 1 "not from this example" env BFM_CLI=/bin/true sh "$run" "$work/foreign"
@@ -76,7 +93,7 @@ for example in melt brush network copolymer; do
 done
 same "the foreign folder" "$(ls "$work/foreign") $(cat "$work/foreign/trajectory.bfm")" "trajectory.bfm kept"
 ends_with "other settings" 1 "other settings" env BFM_CLI=/bin/true sh "$here/brush/run.sh" "$work/melt"
-rm -r "$work/melt" "$work/brush" "$work/network" "$work/copolymer"
+rm -r "$work/melt" "$work/brush" "$work/network" "$work/copolymer" "$work/gel"
 
 # With the program: a run that was cut short in three ways comes to the bytes of the whole one.
 program=${BFM_CLI:-$here/../crates/bfm_cli/out/bfm_cli}
@@ -99,6 +116,27 @@ if [ -x "$program" ]; then
         done
         rm -r "$work/part"
     done
+
+    # Links: as many as bonds that came, and a run that was cut comes to the bytes of the whole one.
+    "$program" build melt x=10 y=10 z=10 chains=6 length=8 > "$work/start"
+    printf '!bfm_valence\n1-48:3\n' > "$work/lines"
+    awk -v lines="$work/lines" -f "$here/insert.awk" "$work/start" > "$work/open"
+    "$program" run seed=1 frames=6 every=10 link=on < "$work/open" > "$work/linked" 2> "$work/said"
+    made=$(awk -f "$here/gel/gel.awk" chains=6 length_of=8 sites=10 warm=0 "$work/linked" | awk 'END { print $2 }')
+    same "bonds with links" "$("$program" info < "$work/linked" | awk '$1 == "bonds" { print $2 }')" "$((6 * 7 + made))"
+    same "links of the report" "$(awk '$1 == "links" { print $2 }' "$work/said")" "$made"
+    joined=$(awk -f "$here/gel/gel.awk" chains=6 length_of=8 sites=10 warm=0 "$work/linked" | awk 'END { print $4, $5 }')
+    same "a melt whose monomers all take links becomes one molecule" "$joined" "1 1.000"
+    tests=$((tests + 1))
+    if [ "$made" -eq 0 ]; then
+        echo "links: none was made"
+        failures=$((failures + 1))
+    fi
+    head -c $(($(wc -c < "$work/linked") - 100)) "$work/linked" > "$work/cut"
+    frames=$("$program" info < "$work/cut" | awk '$1 == "mcs" { print $2 / 10 }')
+    "$program" run seed=1 "frames=$((6 - frames))" every=10 link=on < "$work/cut" > "$work/again" 2> "$work/said"
+    same "links that were cut" "$(cksum < "$work/again")" "$(cksum < "$work/linked")"
+
     before=$(cksum "$work/whole"/*)
     ends_with "a finished folder" 0 "results in" sh "$here/network/run.sh" "$work/whole"
     same "a finished folder" "$(cksum "$work/whole"/*)" "$before"

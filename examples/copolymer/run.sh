@@ -37,14 +37,6 @@ write_weights() {
     awk -v strength="$strength" -f "$here/acceptance.awk"
 }
 
-# insert LINES FILE: puts the lines of one file into the header of start.bfm, right before its first frame
-insert() {
-    if [ ! -e "$folder/$2" ]; then
-        awk -v lines="$folder/$1" -f "$here/insert.awk" "$folder/start.bfm" > "$folder/$2.part"
-        mv "$folder/$2.part" "$folder/$2"
-    fi
-}
-
 [ $# -le 1 ] || fail "takes one folder at most"
 if [ "$(awk -v strength=0.5 -f "$here/acceptance.awk" | head -n 4 | tr '\n' ' ')" != \
     "2605029347 1580030168 958336740 581260615 " ]; then
@@ -58,7 +50,7 @@ build_start melt "x=$side" "y=$side" "z=$side" "chains=$chains" "length=$length"
 write_classes > "$folder/plain_lines.txt"
 { write_classes; write_weights; } > "$folder/weighed_lines.txt"
 for kind in plain weighed; do
-    insert "${kind}_lines.txt" "${kind}_start.bfm"
+    insert_lines "${kind}_lines.txt" "${kind}_start.bfm"
     begin_from "${kind}_start.bfm" "$kind.bfm"
     advance "$kind.bfm" "$warm" "$kind, warm-up"
     advance "$kind.bfm" "$last" "$kind, run"
