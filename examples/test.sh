@@ -127,6 +127,9 @@ if [ -x "$program" ]; then
     same "links of the report" "$(awk '$1 == "links" { print $2 }' "$work/said")" "$made"
     joined=$(awk -f "$here/gel/gel.awk" chains=6 length_of=8 sites=10 warm=0 "$work/linked" | awk 'END { print $4, $5 }')
     same "a melt whose monomers all take links becomes one molecule" "$joined" "1 1.000"
+    most=$(LC_ALL=C awk '/^!add_bonds/ { on = 1; next } /^!/ || /^$/ { on = 0 } on { bonds[$1]++; bonds[$2]++ }
+        END { for (i = 1; i <= 48; i++) { n = bonds[i] + 2 - (i % 8 < 2); if (n > most) most = n } print most }' "$work/linked")
+    same "the most bonds of a monomer" "$most" 3
     tests=$((tests + 1))
     if [ "$made" -eq 0 ]; then
         echo "links: none was made"

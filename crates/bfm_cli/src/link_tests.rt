@@ -2,11 +2,9 @@
 //! along +y and then one along +z in sweep 0; so does a world of three, whose third attempt takes words
 //! that are not used here: in the files below nothing may come of it, whatever they are.
 
-use crate::reading_tests::{answers, written_by};
+use crate::reading_tests::answers;
 use crate::status::Status;
 use crate::tests::{ONE, file_with};
-use bfm_base::MemSource;
-use bfm_session::load;
 use std::alloc::{AllocError, Global};
 use std::test::Fail;
 
@@ -165,35 +163,6 @@ fn a_monomer_with_as_many_bonds_as_its_valence_is_not_linked(rt: HostRuntime) ->
             runs(rt.alloc(), WORDS, file.as_str(), added, counts)?,
             "{valences} {frame}"
         );
-    }
-    Ok(())
-}
-
-/// A melt of eight chains of four, in half of the box, whose monomers may have these numbers of bonds.
-fn melt_with(alloc: Global, valences: &str) -> Result<String, Fail> {
-    let start = written_by(alloc, "build melt x=8 y=8 z=8 chains=8 length=4", b"")?;
-    let (header, frame) = str::from_utf8(start.bytes())?
-        .split_once("!mcs=0\n")
-        .unwrap_or(("", ""));
-    Ok(format!(in alloc; "{header}!bfm_valence\n{valences}\n!mcs=0\n{frame}")?)
-}
-
-#[test]
-fn no_monomer_of_a_melt_is_linked_beyond_its_valence(rt: HostRuntime) -> Result<(), Fail> {
-    let file = melt_with(rt.alloc(), "1-16:2\n17-32:3")?;
-    let words = "run seed=7 frames=2 every=2 link=on";
-    let output = written_by(rt.alloc(), words, file.as_bytes())?;
-    let added = str::from_utf8(output.bytes())?.strip_prefix(file.as_str());
-    assert!(rt; added.is_some_and(|added| added.starts_with("\n!add_bonds\n")));
-    let mut input = MemSource::new(rt.alloc(), output.bytes(), 1000, &[])?;
-    let loaded = load(rt.alloc(), &mut input, 1_000_000).ok();
-    assert!(rt; loaded.is_some());
-    if let Some((loaded, _)) = loaded {
-        let world = loaded.world;
-        for i in 0..world.len() {
-            let bonds = world.neighbours(i).len();
-            assert!(rt; bonds <= usize::from(world.valence(i)), "monomer {i}");
-        }
     }
     Ok(())
 }

@@ -200,7 +200,7 @@ const CHAIN: &str =
     "0 0 0 \x11\x11\x11\x11\x11\x11\x11\x11\x11\x11\x11\x11\x11\x11\x11\x11\x11\x11\x11\x11\x11\x11\x11\x11\x11\x11\x11\x11\x11\x11\x11\n";
 
 /// What a job writes over an input.
-pub(crate) fn written_by(alloc: Global, words: &str, input: &[u8]) -> Result<MemSink, AllocError> {
+fn written_by(alloc: Global, words: &str, input: &[u8]) -> Result<MemSink, AllocError> {
     let mut source = MemSource::new(alloc, input, 65_536, &[])?;
     let mut output = MemSink::new(alloc, 30_000, 30_000, &[])?;
     let mut report = MemSink::new(alloc, 1000, 1000, &[])?;
