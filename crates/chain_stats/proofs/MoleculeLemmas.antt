@@ -72,7 +72,7 @@ module _ (w : Configuration) (roots : List ℕ) (a : AreSearched w.bonds (length
   root_below i l = a.before i l l
 
   -- monomers that are joined have one root
-  along : (i : ℕ) (way : List ℕ) (j : ℕ) → i < count → IsWay w.bonds i way j → (j < count) × (root_of roots j ≡ root_of roots i)
+  pub along : (i : ℕ) (way : List ℕ) (j : ℕ) → i < count → IsWay w.bonds i way j → (j < count) × (root_of roots j ≡ root_of roots i)
   along i [] j l h = (omega arith, ap (root_of roots) (sym h))
   along i (k ∷ ks) j l h =
       let rest = along k ks j (bonded.others i k h.0) h.1 in

@@ -1,7 +1,7 @@
 -- The molecules of a world: the sets of all monomers that lists join whose successive members are bonded. Monomers are
 -- counted from 0.
-use Rattle.std.specs.Prelude.{◌≡◌, ◌↔◌, ℕ, ◌<◌, ◌≤◌, true, List, [], ◌∷◌, length, map, slice_index, All}
-use Rattle.std.specs.List.{Contains}
+use Rattle.std.specs.Prelude.{◌≡◌, ◌↔◌, ℕ, zero, suc, ◌<◌, ◌≤◌, Bool, true, ◌&&◌, ◌||◌, not, nat_eq, List, [], ◌∷◌, length, map, filter, slice_index, All}
+use Rattle.std.specs.List.{Contains, list_all, list_any, range_with_len}
 use Rattle.bfm_world.specs.Bonds.{are_bonded, IsAscending}
 use Rattle.bfm_world.specs.Configuration.{Configuration}
 
@@ -30,3 +30,30 @@ pub record AreMolecules (w : Configuration) (molecules : List (List ℕ)) : Type
   pub each : All (IsMolecule w) molecules
   pub order : IsAscending (map first_of molecules)
   pub all : (i : ℕ) → i < length w.positions → (members : List ℕ) × Contains molecules members × Contains members i
+
+-- The same molecules, as a function of the world.
+
+-- all monomers
+abbrev pub monomers_of : Configuration → List ℕ
+monomers_of w = range_with_len 0 (length w.positions)
+
+-- whether a list of at most so many bonds joins monomer i to monomer j
+abbrev pub join_within : Configuration → ℕ → ℕ → ℕ → Bool
+join_within w zero i j = nat_eq i j
+join_within w (suc bonds) i j = join_within w bonds i j || list_any (λ k. join_within w bonds i k && are_bonded w.bonds k j) (monomers_of w)
+
+-- whether the two are joined: where they are, fewer bonds do it than there are monomers
+abbrev pub are_joined : Configuration → ℕ → ℕ → Bool
+are_joined w i j = join_within w (length w.positions) i j
+
+-- whether no monomer before monomer i is joined to it
+abbrev pub is_least : Configuration → ℕ → Bool
+is_least w i = list_all (λ j. not (are_joined w j i)) (range_with_len 0 i)
+
+-- all monomers that are joined to monomer i, in ascending order
+abbrev pub molecule_with : Configuration → ℕ → List ℕ
+molecule_with w i = filter (are_joined w i) (monomers_of w)
+
+-- the molecules of a world, in order of their least monomers
+abbrev pub molecules_of : Configuration → List (List ℕ)
+molecules_of w = map (molecule_with w) (filter (is_least w) (monomers_of w))

@@ -14,6 +14,7 @@ use Rattle.bond_set.proofs.PairLemmas.{same_from_same_vector, same_vector-equiv}
 use Rattle.std.specs.Cmp.{IsEquivalence}
 use Rattle.contact_table.specs.Contacts.{is_same_pair}
 use Rattle.bfm_world.specs.Configuration.{Configuration, class_at, class_of, label_of}
+use Rattle.chain_stats.proofs.JoinLemmas.{same_tests}
 use Rattle.chain_stats.proofs.MoleculeLemmas.{same_numbers, same_test}
 use Rattle.cluster_stats.specs.declared.shell.TheConstants.{SHELL}
 use Rattle.cluster_stats.specs.Contacts.{AreContactCounts, ContactTally, class_pair, later_count, touch, touch_with}
@@ -22,11 +23,6 @@ use Rattle.cluster_stats.proofs.CountLemmas.{count_by-in_turn, count_by-range_no
 use Rattle.cluster_stats.proofs.ShellLemmas.{times-is}
 
 -- ---- classes
-pub same_tests : (a b : Bool) → (a ≡ true → b ≡ true) → (b ≡ true → a ≡ true) → a ≡ b
-same_tests true b f g = sym (f refl)
-same_tests false true f g = g refl
-same_tests false false f g = refl
-
 -- the number of two classes tells them, but not their order
 pub class_pair-same : (a b c d : ℕ) → a ≤ 15 → b ≤ 15 → c ≤ 15 → d ≤ 15 → nat_eq (class_pair c d) (class_pair a b) ≡ is_same_pair a b c d
 class_pair-same a b c d p q r s =

@@ -1,10 +1,10 @@
 -- The clusters of a world: the sets of all monomers that lists join whose successive members are in contact. Monomers are
 -- counted from 0.
-use Rattle.std.specs.Prelude.{◌≡◌, ℕ, ◌≤◌, nat_eq, List, length, map, filter, All, Contains, count_by}
+use Rattle.std.specs.Prelude.{◌≡◌, ℕ, ◌≤◌, nat_eq, nat_lt, List, length, map, filter, All, Contains, count_by}
 use Rattle.std.specs.List.{range_with_len}
 use Rattle.bfm_world.specs.Bonds.{IsAscending}
 use Rattle.bfm_world.specs.Configuration.{Configuration}
-use Rattle.chain_stats.specs.Molecules.{AreMolecules}
+use Rattle.chain_stats.specs.Molecules.{AreMolecules, molecules_of}
 use Rattle.cluster_stats.specs.Contacts.{touch}
 
 -- for each monomer those that are in contact with it, in ascending order
@@ -13,9 +13,13 @@ contact_lists w =
     let monomers = range_with_len 0 (length w.positions) in
     map (λ i. filter (touch w i) monomers) monomers
 
+-- the world whose bonds are these contacts
+abbrev pub with_contacts : Configuration → Configuration
+with_contacts w = record w { bonds = contact_lists w }
+
 -- the clusters of a world, in order of their least monomers: they are what its molecules would be if its contacts were its bonds
 abbrev pub AreClusters : Configuration → List (List ℕ) → Type 0
-AreClusters w clusters = AreMolecules (record w { bonds = contact_lists w }) clusters
+AreClusters w clusters = AreMolecules (with_contacts w) clusters
 
 -- how many of some clusters have this size
 abbrev pub number_of_size : List (List ℕ) → ℕ → ℕ
@@ -34,3 +38,14 @@ pub record AreSizes (clusters : List (List ℕ)) (rows : List (ℕ × ℕ)) : Ty
 -- the sizes of the clusters of a world, and how many have each
 abbrev pub AreClusterSizes : Configuration → List (ℕ × ℕ) → Type 0
 AreClusterSizes w rows = (clusters : List (List ℕ)) × AreClusters w clusters × AreSizes clusters rows
+
+-- The same rows, as a function of the clusters, none of which has more monomers than `most`: each size from 1 on that one has,
+-- with the number of such clusters.
+abbrev pub size_rows : List (List ℕ) → ℕ → List (ℕ × ℕ)
+size_rows clusters most =
+    let sizes = filter (λ size. nat_lt 0 (number_of_size clusters size)) (range_with_len 1 most) in
+    map (λ size. (size, number_of_size clusters size)) sizes
+
+-- the rows of the clusters of a world
+abbrev pub cluster_rows : Configuration → List (ℕ × ℕ)
+cluster_rows w = size_rows (molecules_of (with_contacts w)) (length w.positions)
