@@ -144,9 +144,15 @@ standing lines = with_positions lines.builder lines.positions.items
 abbrev pub at_whole : Draft → Whole → Draft
 at_whole draft whole = with_bonds (with_positions draft whole.last.items) whole.bonds
 
--- The last whole frame is a valid world.
+-- positions of so many monomers, within the reach of worlds
+pub record ArePlaces (count : ℕ) (positions : List P3) : Type 0 where
+  pub each : length positions ≡ count
+  pub reach : reach_of positions ≤ WORLD_REACH
+
+-- The last whole frame is a valid world, and the first one has positions of as many monomers.
 pub record IsKept (draft : Draft) (whole : Whole) : Type 0 where
   pub valid : IsValid (at_whole draft whole).world
+  pub first : ArePlaces draft.count whole.first.items
   pub reach : reach_of whole.last.items ≤ WORLD_REACH
   pub mcs : whole.mcs ≤ GREATEST_MCS
 

@@ -5,7 +5,7 @@ ghost use Rattle.bfm_world.specs.Configuration.{IsSound, IsValid, reach_of};
 ghost use Rattle.bfm_commands.specs.Causes.{frame_cause, added_cause, removed_cause};
 ghost use Rattle.bfm_commands.specs.Forms.{pair_entry};
 ghost use Rattle.bfm_commands.specs.History.{given_in, with_added, with_removed};
-ghost use Rattle.bfm_commands.specs.Reading.{IsFault, AreSound, IsReady, IsChanged, KeepsFrame, TakesLine, TakesEntry, frames_fault, is_complete, standing, next_fault, loaded_by, whole_count};
+ghost use Rattle.bfm_commands.specs.Reading.{IsFault, ArePlaces, AreSound, IsReady, IsChanged, KeepsFrame, TakesLine, TakesEntry, frames_fault, is_complete, standing, next_fault, loaded_by, whole_count};
 
 use crate::commands::Known;
 use crate::fault::LineFault;
@@ -150,6 +150,7 @@ impl Frames {
         requires reach { reach_of self.old.lines.positions.items ≤ WORLD_REACH }
         requires whole { is_complete (standing self.old.lines) ≡ true }
         requires valid { IsSound self.old.lines.builder.count self.old.lines.builder.world }
+        requires first { MatchOption self.old.whole ⊤ (λ whole. ArePlaces self.old.lines.builder.count whole.first.items) }
         requires bonds { self.old.changed ≡ false → MatchOption self.old.whole ⊤ (λ whole. whole.bonds ≡ self.old.lines.builder.world.bonds) }
         requires room { MatchOption self.old.whole ⊤ (λ whole. whole.frames < u64.MAX) }
         ensures frame { OnOk result (standing self.new.lines ≡ standing self.old.lines) }
@@ -232,6 +233,7 @@ impl Frames {
         requires sound { AreSound self }
         ensures loaded { result ≡ option_map (loaded_by self.lines.builder total skipped) self.whole }
         ensures valid { IfSome result (λ loaded. IsValid loaded.world) }
+        ensures first { IfSome result (λ loaded. ArePlaces (length loaded.world.positions) loaded.first) }
         ensures mcs { IfSome result (λ loaded. loaded.mcs ≤ GREATEST_MCS) }
     {
         let Frames { lines, whole, .. } = self;

@@ -1,7 +1,7 @@
 ghost use Rattle.std.specs.Prelude.{◌≡◌, ◌+◌, ◌≤◌, ℕ, List, [], ◌++◌, length, None, Some, IfOk, IfErr, OnOk, IfSome, Err};
 ghost use Rattle.bfm_base.specs.declared.limits.TheConstants.{GREATEST_LIMIT, GREATEST_MCS};
 ghost use Rattle.bfm_world.specs.Configuration.{IsValid};
-ghost use Rattle.bfm_commands.specs.Reading.{StandsFor, Answers, Ends};
+ghost use Rattle.bfm_commands.specs.Reading.{StandsFor, Answers, Ends, ArePlaces};
 ghost use Rattle.bfm_commands.specs.Verdict.{verdict_of};
 
 use crate::fault::LineFault;
@@ -71,6 +71,7 @@ impl Reader {
         ensures answer { (bytes : List ℕ) → StandsFor self bytes → Ends result (verdict_of bytes) }
         ensures again { IfSome self.stop (λ stop. result ≡ Err stop) }
         ensures valid { IfOk result (λ loaded. IsValid loaded.world) }
+        ensures first { IfOk result (λ loaded. ArePlaces (length loaded.world.positions) loaded.first) }
         ensures mcs { IfOk result (λ loaded. loaded.mcs ≤ GREATEST_MCS) }
         ensures kept { (bytes : List ℕ) → StandsFor self bytes → IfOk result (λ loaded. loaded.kept ≤ length bytes) }
     {
