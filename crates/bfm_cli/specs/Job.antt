@@ -3,7 +3,7 @@ use Rattle.std.specs.Prelude.{ℕ, Bool, ◌+◌, ◌-◌, ◌^◌, ◌≤◌, L
 use Rattle.std.specs.Str.{bytes_eq}
 use Rattle.bfm_base.specs.declared.limits.TheConstants.{GREATEST_LIMIT, MOST_FRAMES, MOST_SWEEPS, USUAL_LIMIT}
 use Rattle.bfm_session.specs.declared.analysis.Ask.{Ask}
-use Rattle.bfm_session.specs.declared.analysis.Ask.TheVariants.{Check, Info}
+use Rattle.bfm_session.specs.declared.analysis.Ask.TheVariants.{Check, Info, Radii, Moves, Contacts, Clusters}
 use Rattle.bfm_cli.specs.Start.{IsStart, brush_in, brush_keys, melt_in, melt_keys, network_in, network_keys}
 use Rattle.bfm_cli.specs.Words.{Key, Switch, first_wrong, is_on, number_for}
 use Rattle.bfm_cli.specs.declared.job.FileJob.{FileJob}
@@ -62,6 +62,22 @@ abbrev pub look_of : Ask → List (List ℕ) → Option ℕ → Result Job ℕ
 look_of ask words (Some before) = Err (before + 2)
 look_of ask words None = asked_of ask (length words + 2) (number_for limit_key words)
 
+-- what the name of a job asks of a file
+abbrev pub ask_of : List ℕ → Option Ask
+ask_of name =
+    if bytes_eq name (codes "check") then Some Check
+    else if bytes_eq name (codes "info") then Some Info
+    else if bytes_eq name (codes "radii") then Some Radii
+    else if bytes_eq name (codes "moves") then Some Moves
+    else if bytes_eq name (codes "contacts") then Some Contacts
+    else if bytes_eq name (codes "clusters") then Some Clusters
+    else None
+
+-- the analysis that a name asks for, with the words behind it; a name that is none is word 1
+abbrev pub look_named : Option Ask → List (List ℕ) → Result Job ℕ
+look_named None words = Err 1
+look_named (Some ask) words = look_of ask words (first_wrong look_keys [] [] words)
+
 -- a start, by the words behind its kind, which is word 2; numbers that do not go together are told as one that is missing
 abbrev pub started : List (List ℕ) → Option ℕ → Option Start → Result Job ℕ
 started words (Some before) start = Err (before + 3)
@@ -82,9 +98,7 @@ job_of [] = Err 1
 job_of (name ∷ words) =
     if bytes_eq name (codes "run") then run_of words (first_wrong run_keys run_switches [] words)
     else if bytes_eq name (codes "build") then build_of words
-    else if bytes_eq name (codes "check") then look_of Check words (first_wrong look_keys [] [] words)
-    else if bytes_eq name (codes "info") then look_of Info words (first_wrong look_keys [] [] words)
-    else Err 1
+    else look_named (ask_of name) words
 
 -- the numbers of a job are in their ranges
 abbrev pub IsFileJob : FileJob → Type 0

@@ -1,6 +1,6 @@
 ghost use Rattle.std.specs.Prelude.{◌≡◌, ◌<◌, [], length, map, IfOk, IfSome, string_bytes};
 ghost use Rattle.bfm_cli.specs.Start.{IsStart};
-ghost use Rattle.bfm_cli.specs.Job.{build_of, job_of, look_keys, look_of, run_keys, run_of, run_switches, started, IsInRange};
+ghost use Rattle.bfm_cli.specs.Job.{ask_of, build_of, job_of, look_keys, look_of, run_keys, run_of, run_switches, started, IsInRange};
 ghost use Rattle.bfm_cli.specs.Words.{first_wrong};
 
 use crate::start::{BRUSH_KEYS, MELT_KEYS, NETWORK_KEYS, Start, brush_in, melt_in, network_in};
@@ -74,12 +74,30 @@ pub fn job_of(words: &[String]) -> Result<Job, u64>
         run_of(words)
     } else if name.as_str() == "build" {
         build_of(words)
-    } else if name.as_str() == "check" {
-        look_of(Ask::Check, words)
-    } else if name.as_str() == "info" {
-        look_of(Ask::Info, words)
     } else {
-        Err(1)
+        let ask = ask_of(name.as_str()).ok_or(1u64)?;
+        look_of(ask, words)
+    }
+}
+
+/// What the name of a job asks of a file.
+fn ask_of(name: &str) -> Option<Ask>
+    ensures { result ≡ ask_of name.now }
+{
+    if name == "check" {
+        Some(Ask::Check)
+    } else if name == "info" {
+        Some(Ask::Info)
+    } else if name == "radii" {
+        Some(Ask::Radii)
+    } else if name == "moves" {
+        Some(Ask::Moves)
+    } else if name == "contacts" {
+        Some(Ask::Contacts)
+    } else if name == "clusters" {
+        Some(Ask::Clusters)
+    } else {
+        None
     }
 }
 

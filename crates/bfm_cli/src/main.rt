@@ -21,6 +21,8 @@ mod report;
 mod start;
 mod status;
 #[cfg(test)]
+mod table_tests;
+#[cfg(test)]
 mod tests;
 mod tool;
 #[cfg(test)]

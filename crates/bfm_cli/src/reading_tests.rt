@@ -54,7 +54,7 @@ pub(crate) fn answers(
 
 // (words, what is put behind the first file, bytes a call, status, output, report)
 #[rattlefmt::skip]
-const ACCEPTED: [(&str, &str, usize, Status, &str, &str); 10] = [
+const ACCEPTED: [(&str, &str, usize, Status, &str, &str); 15] = [
     ("info", "", 1, Status::Done, INFO, ""),
     ("info", "", 65_536, Status::Done, INFO, ""),
     ("info limit=1073741824", "\n!mcs=1\n3 4 3", 50, Status::Done, INFO, ""),
@@ -65,6 +65,11 @@ const ACCEPTED: [(&str, &str, usize, Status, &str, &str); 10] = [
     ("info limit=103", "", 50, Status::TooLong, "", "long 103\n"),
     ("check limit=5", "", 65_536, Status::TooLong, "", "long 5\n"),
     ("run limit=0 seed=42 frames=1 every=1", "", 1, Status::TooLong, "", "long 0\n"),
+    ("radii limit=104", "", 50, Status::Done, "molecule 1 1 0/1 0\n", ""),
+    ("moves limit=103", "", 50, Status::TooLong, "", "long 103\n"),
+    ("moves limit=1073741824", GROUPS, 50, Status::Done, "monomers 2/1\nmolecule 1 1 2/1\n", ""),
+    ("contacts limit=0", "", 1, Status::TooLong, "", "long 0\n"),
+    ("clusters limit=132", GROUPS, 1, Status::Done, "1 1\n", ""),
 ];
 
 #[test]

@@ -397,6 +397,12 @@ fn wrong_words_leave_the_input_unread(rt: HostRuntime) -> Result<(), Fail> {
         ("check limit=", 2),
         ("run seed=42 frames=1 every=1 limit=1073741825", 5),
         ("run limit=5 seed=42 frames=1", 5),
+        ("radii frames=1", 2),
+        ("moves link=on", 2),
+        ("contacts limit=10 limit=10", 3),
+        ("clusters limit=1073741825", 2),
+        ("clusters clusters", 2),
+        ("cluster", 1),
     ];
     for (words, place) in table {
         let mut input = MemSource::new(rt.alloc(), ONE.as_bytes(), 1, &[])?;

@@ -1,10 +1,11 @@
-ghost use Rattle.std.specs.Prelude.{◌≡◌, ◌≢◌, ◌≤◌, ◌⊎◌, ℕ, List, Result, map, string_bytes, IsErr, IfOk, IfSome, Ok, true};
+ghost use Rattle.std.specs.Prelude.{◌≡◌, ◌≢◌, ◌≤◌, ◌⊎◌, ℕ, List, Result, length, map, string_bytes, IsErr, IfOk, IfSome, Ok, true};
 ghost use Rattle.bfm_base.specs.Account.{Delivered};
 ghost use Rattle.bfm_world.specs.Configuration.{IsValid};
 ghost use Rattle.std.specs.Io.KnownBytes.{Appends, IsAtEnd};
 ghost use Rattle.bfm_base.specs.Faults.{Rose};
 ghost use Rattle.bfm_base.specs.declared.limits.TheConstants.{GREATEST_LIMIT, GREATEST_MCS, MOST_FRAMES, MOST_SWEEPS};
 ghost use Rattle.crossing_check.specs.declared.judgement.SetVerdict.{SetVerdict};
+ghost use Rattle.bfm_commands.specs.Reading.{ArePlaces};
 ghost use Rattle.bfm_commands.specs.Verdict.{verdict_of};
 ghost use Rattle.bfm_session.specs.Loading.{supply};
 ghost use Rattle.bfm_session.specs.Written.{IsReadBack};
@@ -152,6 +153,7 @@ fn do_accepted<O: Sink>(
     output: &mut O,
 ) -> Result<Ending, Fault>
     requires range { IsFileJob job.now }
+    requires first { ArePlaces (length loaded.world.positions) loaded.first }
     requires mcs { loaded.mcs ≤ GREATEST_MCS }
     ensures { DoesAccepted result job.now loaded kept.now (O.account output.old) (O.account output.new) (output.new ≡ output.old) }
 {
@@ -168,6 +170,7 @@ fn look_at_accepted<O: Sink>(
     loaded: &Loaded,
     output: &mut O,
 ) -> Result<Ending, Fault>
+    requires { ArePlaces (length loaded.now.world.positions) loaded.now.first }
     ensures { (kept : List ℕ) (limit : ℕ) → DoesAccepted result (FileJob.Look ask.now limit) loaded.now kept (O.account output.old) (O.account output.new) (output.new ≡ output.old) }
 {
     match analyse(alloc, loaded, ask, output) {

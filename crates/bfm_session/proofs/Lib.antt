@@ -36,4 +36,5 @@ pub mod ReadBackVectors
 pub mod ReadBackWalk
 pub mod ReadBackWhole
 pub mod ReadBackWorld
+mod TableLemmas
 mod TextLemmas

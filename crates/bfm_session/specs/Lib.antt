@@ -6,4 +6,5 @@ pub mod NumberLines
 pub mod Parts
 pub mod Pieces
 pub mod Running
+pub mod Tables
 pub mod Written

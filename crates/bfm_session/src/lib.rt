@@ -1,7 +1,8 @@
 //! A session with one file: reading it from a source, and running or analysing what it holds into a
 //! sink. It stands on `bfm_commands` for the reading, on `bfm_writer` for the writing, on `sweep_run`
-//! for the sweeps, on `plain_move` for the moves, on `crosslink` for the log of links and on
-//! `crossing_check` for the verdict on the set. It promises that `load` judges the bytes in order and
+//! for the sweeps, on `plain_move` for the moves, on `crosslink` for the log of links, on
+//! `crossing_check` for the verdict on the set, and on `chain_stats` and `cluster_stats` for molecules,
+//! contacts and clusters. It promises that `load` judges the bytes in order and
 //! stops where they decide, that `run` writes the kept part of the file and then the groups of the
 //! run, each with the pairs that were linked since the one before, and that `analyse` writes its
 //! answer; both flush, or say why not. A world that `write_world` writes is read back as the same
@@ -15,6 +16,7 @@ mod lines;
 mod loading;
 mod order;
 mod running;
+mod tables;
 mod written;
 
 pub use analysis::{Ask, AskFault, analyse};

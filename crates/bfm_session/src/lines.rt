@@ -15,7 +15,7 @@ pub fn number_lines<S: Sink>(sink: &mut S, lines: &[(&[u8], &[u64])]) -> Result<
     Ok(())
 }
 
-fn number_line<S: Sink>(sink: &mut S, name: &[u8], numbers: &[u64]) -> Result<(), Failed>
+pub(crate) fn number_line<S: Sink>(sink: &mut S, name: &[u8], numbers: &[u64]) -> Result<(), Failed>
     ensures { Sends result (S.account sink.old) (S.account sink.new) (number_line name.now numbers.now) }
 {
     send(sink, name)?;

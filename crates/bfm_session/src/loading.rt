@@ -1,8 +1,8 @@
-ghost use Rattle.std.specs.Prelude.{◌≡◌, ◌≤◌, ◌++◌, ℕ, List, vec_len, IfOk, IfErr, OnOk};
+ghost use Rattle.std.specs.Prelude.{◌≡◌, ◌≤◌, ◌++◌, ℕ, List, length, vec_len, IfOk, IfErr, OnOk};
 ghost use Rattle.std.specs.Io.KnownBytes.{Consumes, IsAtEnd};
 ghost use Rattle.bfm_base.specs.declared.limits.TheConstants.{GREATEST_LIMIT, GREATEST_MCS};
 ghost use Rattle.bfm_world.specs.Configuration.{IsValid};
-ghost use Rattle.bfm_commands.specs.Reading.{StandsFor};
+ghost use Rattle.bfm_commands.specs.Reading.{ArePlaces, StandsFor};
 ghost use Rattle.bfm_session.specs.Loading.{IsLoaded, Stops, Takes, supply};
 ghost use Rattle.bfm_session.specs.Pieces.{Decides, fault_of};
 
@@ -44,6 +44,7 @@ pub fn load<I: Source>(
         × Takes limit (supply (I.left input.old) (I.faults input.old)) (supply (I.left input.new) (I.faults input.new)) taken
         × Stops fault limit (supply (I.left input.old) (I.faults input.old)) (supply (I.left input.new) (I.faults input.new)) taken) }
     ensures valid { IfOk result (λ read. IsValid read.0.world) }
+    ensures first { IfOk result (λ read. ArePlaces (length read.0.world.positions) read.0.first) }
     ensures mcs { IfOk result (λ read. read.0.mcs ≤ GREATEST_MCS) }
     ensures kept { IfOk result (λ read. vec_len read.1 ≡ read.0.kept) }
 {

@@ -1,0 +1,9 @@
+use Rattle.std.proofs.Common.{take}
+use Rattle.std.specs.List.{flat_map}
+use Rattle.bfm_base.specs.Account.{TookAll}
+use Rattle.bfm_session.specs.Tables.{radius_line}
+use Rattle.bfm_session.proofs.tables.radius_lines.Given as goal
+
+abbrev pub invariant-loop-k : goal.invariant-loop-k
+invariant-loop-k g l =
+    TookAll (g.S.Sink.account l.initial.sink) (g.S.Sink.account l.sink) (flat_map (radius_line l.fn.world) (take l.k l.fn.molecules))
