@@ -16,7 +16,7 @@ _bfm_cli_keys() {
         echo 'link on|off default:off'
         echo "$limit"
         ;;
-    check | info)
+    check | info | radii | moves | contacts | clusters)
         echo "$limit"
         ;;
     melt)
@@ -110,7 +110,7 @@ _bfm_cli() {
     done
 
     if ((${#given[@]} == 0)); then
-        _bfm_cli_offer "$current" run check info build
+        _bfm_cli_offer "$current" run check info radii moves contacts clusters build
         return
     fi
     local job=${given[0]}

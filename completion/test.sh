@@ -31,7 +31,7 @@ offers() {
 COMP_WORDBREAKS=$' \t\n"\'><=;|&(:'
 COMP_TYPE=9
 
-offers 'bfm_cli ' 'run|check|info|build'
+offers 'bfm_cli ' 'run|check|info|radii|moves|contacts|clusters|build'
 offers 'bfm_cli b' 'build'
 offers 'bfm_cli x' ''
 offers 'bfm_cli melt ' ''
@@ -47,6 +47,12 @@ offers 'bfm_cli run seed=1 frames=2 every=10 limit=5 ' 'link='
 offers 'bfm_cli run seed=1 frames=2 every=10 limit=5 link=on ' ''
 offers 'bfm_cli check ' 'limit='
 offers 'bfm_cli info l' 'limit='
+offers 'bfm_cli r' 'run|radii'
+offers 'bfm_cli c' 'check|contacts|clusters'
+offers 'bfm_cli radii ' 'limit='
+offers 'bfm_cli moves limit=5 ' ''
+offers 'bfm_cli contacts s' ''
+offers 'bfm_cli clusters limit=' '0..1073741824|(default 268435456)'
 offers 'bfm_cli run l' 'link=|limit='
 offers 'bfm_cli build melt ' 'x=|y=|z=|chains=|length=|px=|py=|pz='
 offers 'bfm_cli build melt p' 'px=|py=|pz='
@@ -103,12 +109,19 @@ offers "bfm_cli run < $folder/start > $folder/new seed=1 " 'frames=|every=|link=
 offers "bfm_cli run 2>$folder/report seed=1 " 'frames=|every=|link=|limit='
 rm -r "$folder"
 
-# the keys of the program's text, where that stands beside this
+# the keys and the jobs of the program's text, where that stands beside this
 text=$here/../crates/bfm_cli/src
 if [ -r "$text/job.rt" ] && [ -r "$text/start.rt" ]; then
     wanted=$(sed -n 's/.*name: "\([a-z]*\)".*/\1/p' "$text/job.rt" "$text/start.rt" | sort -u)
-    found=$(for job in run check info melt brush network; do _bfm_cli_keys "$job"; done | cut -d ' ' -f 1 | sort -u)
+    found=$(for job in run check info radii moves contacts clusters melt brush network; do _bfm_cli_keys "$job"; done |
+        cut -d ' ' -f 1 | sort -u)
     same 'the keys of all jobs' "$(echo "$found" | tr '\n' ' ')" "$(echo "$wanted" | tr '\n' ' ')"
+    wanted=$(sed -n 's/.*if name[a-z_.()]* == "\([a-z]*\)".*/\1/p' "$text/job.rt" | sort)
+    COMP_LINE='bfm_cli '
+    COMP_POINT=8
+    _bfm_cli
+    found=$(printf '%s\n' "${COMPREPLY[@]}" | sort)
+    same 'the jobs' "$(echo "$found" | tr '\n' ' ')" "$(echo "$wanted" | tr '\n' ' ')"
 fi
 
 echo "$tests tests, $failures failed"
