@@ -1,6 +1,6 @@
 //! A session with one file: reading it from a source, and running or analysing what it holds into a
 //! sink. It stands on `bfm_commands` for the reading, on `bfm_writer` for the writing, on `sweep_run`
-//! for the sweeps, on `plain_move` for the moves, on `crosslink` for the log of links, on
+//! for the sweeps, on `packed_engine` for the moves, on `crosslink` for the log of links, on
 //! `crossing_check` for the verdict on the set, and on `chain_stats` and `cluster_stats` for molecules,
 //! contacts and clusters. It promises that `load` judges the bytes in order and
 //! stops where they decide, that `run` writes the kept part of the file and then the groups of the

@@ -15,11 +15,11 @@ use crate::order::RunOrder;
 use bfm_base::limits::{GREATEST_MCS, RUN_REACH};
 use bfm_base::{Failed, Sink, send};
 use bfm_commands::Loaded;
-use bfm_world::{Engine, World};
+use bfm_world::Engine;
 use bfm_writer::group;
 use crossing_check::{SetVerdict, verdict};
 use crosslink::BondLog;
-use plain_move::PlainEngine;
+use packed_engine::PackedEngine;
 use std::alloc::Global;
 use sweep_run::{Tally, sweeps};
 use thiserror::Error;
@@ -88,7 +88,10 @@ pub fn run<O: Sink>(
         return Err(RunFault::Memory);
     };
     let verdict = verdict(loaded.world.set());
-    match frames(loaded.world, loaded.mcs, kept, order, &mut log, output) {
+    let Ok(mut engine) = PackedEngine::new(alloc, loaded.world) else {
+        return Err(RunFault::Memory);
+    };
+    match frames(&mut engine, loaded.mcs, kept, order, &mut log, output) {
         Ok(tally) => Ok(RunDone {
             mcs: loaded.mcs + sweeps,
             tally,
@@ -100,8 +103,8 @@ pub fn run<O: Sink>(
 
 /// Writes the kept part and the groups of a run that does not come too far, and flushes. Answers how
 /// many moves were made and pairs linked.
-fn frames<O: Sink>(
-    world: World,
+fn frames<E: Engine, O: Sink>(
+    engine: &mut E,
     mcs: u64,
     kept: &[u8],
     order: &RunOrder,
@@ -109,15 +112,15 @@ fn frames<O: Sink>(
     output: &mut O,
 ) -> Result<Tally, Failed>
     requires last { mcs + order.now.frames * order.now.every ≤ GREATEST_MCS }
-    requires reach { reach_of world.positions + length world.positions * (order.now.frames * order.now.every) ≤ RUN_REACH }
-    requires log { IsLogOf world log.old }
+    requires reach { reach_of (E.configuration engine.old).positions + length (E.configuration engine.old).positions * (order.now.frames * order.now.every) ≤ RUN_REACH }
+    requires log { IsLogOf (E.configuration engine.old) log.old }
     requires empty { log.old.pairs ≡ [] }
     ensures written { Delivers result (O.account output.old) (O.account output.new)
-        (kept.now ++ groups_text order.now mcs order.now.frames (begun_with world)) }
-    ensures tally { IfOk result (λ tally. tally ≡ (after_frames order.now mcs order.now.frames (begun_with world)).tally) }
+        (kept.now ++ groups_text order.now mcs order.now.frames (begun_with (E.configuration engine.old))) }
+    ensures tally { IfOk result (λ tally. tally ≡ (after_frames order.now mcs order.now.frames (begun_with (E.configuration engine.old))).tally) }
 {
     send(output, kept)?;
-    let tally = groups(&mut PlainEngine::new(world), mcs, order, log, output)?;
+    let tally = groups(engine, mcs, order, log, output)?;
     output.flush()?;
     Ok(tally)
 }
