@@ -19,6 +19,9 @@ _bfm_cli_keys() {
     check | info | radii | moves | contacts | clusters)
         echo "$limit"
         ;;
+    trial)
+        echo 'number 0..18446744073709551615 required'
+        ;;
     melt)
         echo "$sides"
         echo 'chains 1..262144 required'
@@ -110,7 +113,7 @@ _bfm_cli() {
     done
 
     if ((${#given[@]} == 0)); then
-        _bfm_cli_offer "$current" run check info radii moves contacts clusters build
+        _bfm_cli_offer "$current" run check info radii moves contacts clusters trial build
         return
     fi
     local job=${given[0]}

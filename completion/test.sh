@@ -31,7 +31,7 @@ offers() {
 COMP_WORDBREAKS=$' \t\n"\'><=;|&(:'
 COMP_TYPE=9
 
-offers 'bfm_cli ' 'run|check|info|radii|moves|contacts|clusters|build'
+offers 'bfm_cli ' 'run|check|info|radii|moves|contacts|clusters|trial|build'
 offers 'bfm_cli b' 'build'
 offers 'bfm_cli x' ''
 offers 'bfm_cli melt ' ''
@@ -48,6 +48,9 @@ offers 'bfm_cli run seed=1 frames=2 every=10 limit=5 link=on ' ''
 offers 'bfm_cli check ' 'limit='
 offers 'bfm_cli info l' 'limit='
 offers 'bfm_cli r' 'run|radii'
+offers 'bfm_cli t' 'trial'
+offers 'bfm_cli trial ' 'number='
+offers 'bfm_cli trial number=7 ' ''
 offers 'bfm_cli c' 'check|contacts|clusters'
 offers 'bfm_cli radii ' 'limit='
 offers 'bfm_cli moves limit=5 ' ''
@@ -63,6 +66,7 @@ offers 'bfm_cli build network nodes=3 ' 'strand='
 
 # ranges and defaults
 offers 'bfm_cli run seed=' '0..18446744073709551615|(required)'
+offers 'bfm_cli trial number=' '0..18446744073709551615|(required)'
 offers 'bfm_cli run frames=' '0..1048576|(required)'
 offers 'bfm_cli run every=' '1..1073741824|(required)'
 offers 'bfm_cli run limit=' '0..1073741824|(default 268435456)'
@@ -113,7 +117,7 @@ rm -r "$folder"
 text=$here/../crates/bfm_cli/src
 if [ -r "$text/job.rt" ] && [ -r "$text/start.rt" ]; then
     wanted=$(sed -n 's/.*name: "\([a-z]*\)".*/\1/p' "$text/job.rt" "$text/start.rt" | sort -u)
-    found=$(for job in run check info radii moves contacts clusters melt brush network; do _bfm_cli_keys "$job"; done |
+    found=$(for job in run check info radii moves contacts clusters trial melt brush network; do _bfm_cli_keys "$job"; done |
         cut -d ' ' -f 1 | sort -u)
     same 'the keys of all jobs' "$(echo "$found" | tr '\n' ' ')" "$(echo "$wanted" | tr '\n' ' ')"
     wanted=$(sed -n 's/.*if name[a-z_.()]* == "\([a-z]*\)".*/\1/p' "$text/job.rt" | sort)

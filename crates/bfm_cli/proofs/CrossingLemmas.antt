@@ -1,20 +1,23 @@
 -- What is known of the moves of a run by the set of its file.
-use Rattle.std.proofs.Common.{◌≡◌, ◌≢◌, ℕ, List, Result, Ok, Err, IfSome, ◌⊎◌, inl, inr, sym, ◌∙◌, subst}
+use Rattle.std.proofs.Common.{◌≡◌, ◌≢◌, ℕ, false, List, Result, Ok, Err, IfSome, ◌⊎◌, inl, inr, sym, ◌∙◌, subst}
 use Rattle.bfm_base.specs.Account.{Account, Delivered}
 use Rattle.bfm_base.specs.declared.cause.Refused.{Refused}
+use Rattle.bond_set.specs.Crossing.{IsFree}
 use Rattle.crossing_check.specs.Verdict.{IsVerdict}
 use Rattle.crossing_check.specs.declared.judgement.SetVerdict.{SetVerdict}
 use Rattle.crossing_check.specs.declared.judgement.SetVerdict.TheVariants.{Free}
+use Rattle.sweep_run.specs.Sweep.{NoMoveCrosses}
 use Rattle.sweep_run.proofs.SweepLemmas.{NoMoveCrosses-free}
 use Rattle.bfm_commands.specs.Verdict.{verdict_of}
 use Rattle.bfm_commands.specs.declared.loaded.Loaded.{Loaded}
 use Rattle.bfm_session.specs.declared.order.RunOrder.{RunOrder}
 use Rattle.bfm_cli.specs.Ending.{report_of, status_of}
 use Rattle.bfm_cli.specs.Outcome.{JudgesFile, JudgesInput, job_outcome}
-use Rattle.bfm_cli.specs.Promise.{Agrees, HasWorld, IsBegun, DoesOver, HasValidStates, HasValidWorlds, HasFreeSet, CrossesNoBond, HasNoCrossing, Scene, Tells}
+use Rattle.bfm_cli.specs.Promise.{Agrees, HasWorld, IsBegun, DoesOver, HasValidStates, HasValidWorlds, HasFreeSet, CrossesNoBond, HasNoCrossing, IsValidTrial, Scene, Tells}
+use Rattle.bfm_cli.specs.Start.{trial_world}
 use Rattle.bfm_cli.specs.declared.job.FileJob.TheVariants.{Run, Look}
 use Rattle.bfm_cli.specs.declared.job.Job.{Job}
-use Rattle.bfm_cli.specs.declared.job.Job.TheVariants.{Build, File}
+use Rattle.bfm_cli.specs.declared.job.Job.TheVariants.{Build, File, Trial}
 use Rattle.bfm_cli.specs.declared.ending.Ending.{Ending}
 use Rattle.bfm_cli.specs.declared.ending.Ending.TheVariants as ends
 use Rattle.bfm_cli.specs.declared.ending.Fault.{Fault}
@@ -28,11 +31,16 @@ crosses-free : (order : RunOrder) (file : Result Loaded Refused) → HasValidSta
 crosses-free order (Err wrong) valid free = absurd free
 crosses-free order (Ok loaded) valid free = NoMoveCrosses-free order.linking order.seed loaded.mcs loaded.world (valid 0 0) free
 
+-- nor does a trial, where the set of its world is free
+crosses-trial : (number : ℕ) → IsValidTrial number → IsFree trial_world.set → NoMoveCrosses false number 0 trial_world
+crosses-trial number valid free = NoMoveCrosses-free false number 0 trial_world (valid 0 0) free
+
 HasNoCrossing-free : (job : Result Job ℕ) (bytes : List ℕ) → HasValidWorlds job bytes → HasFreeSet (verdict_of bytes) → HasNoCrossing job bytes
 HasNoCrossing-free (Err word) bytes valid free = tt
 HasNoCrossing-free (Ok (File (Run order))) bytes valid free = crosses-free order (verdict_of bytes) valid free
 HasNoCrossing-free (Ok (File (Look ask limit))) bytes valid free = tt
 HasNoCrossing-free (Ok (Build start)) bytes valid free = tt
+HasNoCrossing-free (Ok (Trial number)) bytes valid free = crosses-trial number valid
 
 -- nor does one where the verdict on its set is that it is free
 crosses-judged : (order : RunOrder) (verdict : SetVerdict) (file : Result Loaded Refused) → HasValidStates order file → JudgesFile (Ok (File (Run order))) verdict file → verdict ≡ Free → CrossesNoBond order file
@@ -44,6 +52,7 @@ HasNoCrossing-judged (Err word) bytes verdict valid judged free = tt
 HasNoCrossing-judged (Ok (File (Run order))) bytes verdict valid judged free = crosses-judged order verdict (verdict_of bytes) valid judged free
 HasNoCrossing-judged (Ok (File (Look ask limit))) bytes verdict valid judged free = tt
 HasNoCrossing-judged (Ok (Build start)) bytes verdict valid judged free = tt
+HasNoCrossing-judged (Ok (Trial number)) bytes verdict valid judged free = crosses-trial number valid
 
 -- what is told of a job that has a world
 abbrev pub IsTold : Status → Type 0

@@ -3,5 +3,6 @@ mod InputLemmas
 mod OutcomeLemmas
 mod PartsLemmas
 mod StartLemmas
+mod TrialLemmas
 mod VerdictLemmas
 mod WordLemmas

@@ -1,5 +1,5 @@
 -- What follows from the outcome of a job over an input.
-use Rattle.std.proofs.Common.{◌≡◌, ◌≢◌, ℕ, Bool, true, false, cond, nat_lt, List, take, Option, Some, None, IfSome, Result, Ok, Err, IsErr, ◌⊎◌, inl, inr, refl, sym, ap, ◌∙◌, subst}
+use Rattle.std.proofs.Common.{◌≡◌, ◌≢◌, ℕ, Bool, true, false, cond, nat_lt, List, [], take, Option, Some, None, IfSome, Result, Ok, Err, IsErr, ◌⊎◌, inl, inr, refl, sym, ap, ◌∙◌, subst}
 use Rattle.std.specs.Io.KnownBytes.{IsAtEnd}
 use Rattle.bfm_world.specs.Configuration.{IsValid}
 use Rattle.crossing_check.specs.declared.judgement.SetVerdict.{SetVerdict}
@@ -14,12 +14,12 @@ use Rattle.bfm_cli.specs.Ending.{status_of}
 use Rattle.bfm_cli.specs.Outcome.{JudgesFile, JudgesFor, JudgesInput, nothing, run_report, limit_of, accepted_outcome, build_outcome, file_outcome, job_outcome}
 use Rattle.bfm_base.specs.Account.{Account}
 use Rattle.bfm_base.specs.Faults.{Rose}
-use Rattle.bfm_cli.specs.Promise.{Holds, Reads, IsOfFile, DoesOver, HasValidWorlds, HasValidStates, NeedsNoInput, Scene, Tells, scene}
+use Rattle.bfm_cli.specs.Promise.{Holds, Reads, IsOfFile, DoesAlone, DoesOver, HasValidWorlds, HasValidStates, NeedsNoInput, Scene, Tells, Uses, scene}
 use Rattle.bfm_cli.specs.Start.{need_of, room_of, start_text, world_of}
 use Rattle.bfm_cli.specs.declared.job.FileJob.{FileJob}
 use Rattle.bfm_cli.specs.declared.job.FileJob.TheVariants.{Run, Look}
 use Rattle.bfm_cli.specs.declared.job.Job.{Job}
-use Rattle.bfm_cli.specs.declared.job.Job.TheVariants.{Build, File}
+use Rattle.bfm_cli.specs.declared.job.Job.TheVariants.{Build, File, Trial}
 use Rattle.bfm_cli.specs.declared.start.Start.{Start}
 use Rattle.bfm_cli.specs.declared.ending.Ending.{Ending}
 use Rattle.bfm_cli.specs.declared.ending.Ending.TheVariants as ends
@@ -58,6 +58,7 @@ build_outcome-words start e = over (nat_lt (room_of start) (need_of start)) e
 pub job_outcome-words : (job : Job) (bytes : List ℕ) (verdict : SetVerdict) → status_of (job_outcome (Ok job) bytes verdict).ending ≢ statuses.BadWords
 job_outcome-words (File job) bytes verdict e = file_outcome-words job bytes verdict (limited_verdict (limit_of job) bytes) e
 job_outcome-words (Build start) bytes verdict e = build_outcome-words start e
+job_outcome-words (Trial number) bytes verdict e = cc
 
 -- no verdict on the set changes the status
 far_or_done-status : (far : Bool) (loaded : Loaded) (order : RunOrder) (kept : List ℕ) (a b : SetVerdict)
@@ -76,6 +77,7 @@ job_outcome-status : (job : Result Job ℕ) (bytes : List ℕ) (a b : SetVerdict
 job_outcome-status (Err word) bytes a b = refl
 job_outcome-status (Ok (File job)) bytes a b = file_outcome-status job bytes a b (limited_verdict (limit_of job) bytes)
 job_outcome-status (Ok (Build start)) bytes a b = refl
+job_outcome-status (Ok (Trial number)) bytes a b = refl
 
 -- a run of an accepted file has valid states
 pub HasValidWorlds-loaded : (job : FileJob) (bytes : List ℕ) (loaded : Loaded) → IsValid loaded.world → verdict_of bytes ≡ Ok loaded → HasValidWorlds (Ok (File job)) bytes
@@ -121,16 +123,47 @@ words-told ended word job scene status old new unreported e d t =
 pub unread-by : (ended : Result Ending Fault) (job : Result Job ℕ) (scene : Scene) → DoesOver ended job scene → NeedsNoInput job → scene.unread
 unread-by ended (Err word) scene d n = d.uses.0
 unread-by ended (Ok (Build start)) scene d n = d.uses.0
+unread-by ended (Ok (Trial number)) scene d n = d.uses.0
 unread-by ended (Ok (File job)) scene d n = absurd n
 
 pub NeedsNoInput-words : (job : Result Job ℕ) → IsErr job → NeedsNoInput job
 NeedsNoInput-words (Err word) h = tt
 NeedsNoInput-words (Ok job) h = absurd (cc)
 
+-- a job that reads no file uses no input, and tells no verdict
+pub Uses-alone : (ended : Result Ending Fault) (job : Result Job ℕ) (taken : List ℕ) (before after : Supply) (unread : Type 0) → NeedsNoInput job → unread → ended ≢ Err faults.Read → Uses job ended taken before after unread
+Uses-alone ended (Err word) taken before after unread n same calm = (same, calm)
+Uses-alone ended (Ok (File job)) taken before after unread n same calm = absurd n
+Uses-alone ended (Ok (Build start)) taken before after unread n same calm = (same, calm)
+Uses-alone ended (Ok (Trial number)) taken before after unread n same calm = (same, calm)
+
+JudgesInput-alone : (job : Result Job ℕ) (bytes : List ℕ) (verdict : SetVerdict) → NeedsNoInput job → JudgesInput job bytes verdict
+JudgesInput-alone (Err word) bytes verdict n = tt
+JudgesInput-alone (Ok (File job)) bytes verdict n = absurd n
+JudgesInput-alone (Ok (Build start)) bytes verdict n = tt
+JudgesInput-alone (Ok (Trial number)) bytes verdict n = tt
+
+-- what was done without input, over one that was left alone
+pub DoesOver-alone : (ended : Result Ending Fault) (job : Result Job ℕ) (bytes : List ℕ) (verdict : SetVerdict) (supply : Supply) (unread : Type 0) (before after : Account) (unwritten : Type 0)
+    → NeedsNoInput job → Holds supply.left bytes → unread → DoesAlone ended (job_outcome job bytes verdict) (HasValidWorlds job bytes) before after unwritten
+    → DoesOver ended job (scene supply supply unread before after unwritten)
+DoesOver-alone ended job bytes verdict supply unread before after unwritten alone left same did = record {
+  bytes = bytes;
+  left = left;
+  taken = [];
+  verdict = verdict;
+  judged = λ begun. JudgesInput-alone job bytes verdict alone;
+  agrees = did.agrees;
+  uses = Uses-alone ended job [] supply supply unread alone same did.needs_no_input;
+  writes = did.writes;
+  worlds = did.worlds;
+}
+
 -- no call of the input fails but where a file is read
 read-rose : (job : Result Job ℕ) (s : Scene) (d : DoesOver (Err faults.Read) job s) → Rose s.input_before.faults s.input_after.faults
 read-rose (Err word) s d = absurd (d.uses.1 refl)
 read-rose (Ok (Build start)) s d = absurd (d.uses.1 refl)
+read-rose (Ok (Trial number)) s d = absurd (d.uses.1 refl)
 read-rose (Ok (File job)) s d = d.uses.1.0
 
 -- what holds of the bytes that a source has left holds of those that it tells
@@ -194,6 +227,7 @@ pub reads-all : (ended : Result Ending Fault) (job : Result Job ℕ) (s : Scene)
     → Tells ended status old new unreported → status ≡ statuses.Done → NeedsNoInput job ⊎ IsAtEnd s.input_after.left
 reads-all ended (Err word) s status old new unreported d t e = inl tt
 reads-all ended (Ok (Build start)) s status old new unreported d t e = inl tt
+reads-all ended (Ok (Trial number)) s status old new unreported d t e = inl tt
 reads-all ended (Ok (File job)) s status old new unreported d t e =
     let told = told-done ended status old new unreported t e in
     let r = subst (λ x. Reads x (limit_of job) d.taken s.input_before s.input_after) told.1 d.uses.1 in

@@ -1,14 +1,12 @@
 -- What follows from the outcome of a start.
-use Rattle.std.proofs.Common.{◌≡◌, ◌<◌, ◌≤◌, ℕ, Bool, true, false, cond, nat_lt, List, [], Result, Ok, Err, refl, sym, ap, ◌∙◌, subst, arith}
+use Rattle.std.proofs.Common.{◌≡◌, ◌<◌, ◌≤◌, ℕ, Bool, true, false, cond, nat_lt, Result, Ok, Err, refl, sym, ap, ◌∙◌, subst, arith}
 use Rattle.std.proofs.lemmas.Bool.Decides.{nat_tests}
 use Rattle.bfm_base.specs.Account.{Account, Delivered, TookPrefix}
 use Rattle.bfm_world.specs.Configuration.{Configuration, IsValid}
-use Rattle.crossing_check.specs.declared.judgement.SetVerdict.{SetVerdict}
-use Rattle.bfm_session.specs.Loading.{Supply}
 use Rattle.bfm_session.specs.Written.{IsReadBack}
 use Rattle.bfm_cli.specs.Ending.{status_of}
 use Rattle.bfm_cli.specs.Outcome.{Outcome, build_outcome, nothing}
-use Rattle.bfm_cli.specs.Promise.{Agrees, Holds, HasWorld, DoesBuilt, DoesOver, Scene, Tells, Writes, scene}
+use Rattle.bfm_cli.specs.Promise.{Agrees, HasWorld, DoesBuilt, DoesOver, Scene, Tells, Writes}
 use Rattle.bfm_cli.specs.Start.{need_of, room_of, start_text, world_of}
 use Rattle.bfm_cli.specs.declared.job.Job.{Job}
 use Rattle.bfm_cli.specs.declared.job.Job.TheVariants.{Build}
@@ -36,8 +34,7 @@ DoesBuilt-whole start world before after unwritten fits same valid back d =
       agrees = sym (ap (λ (o : Outcome). o.ending) outcome);
       needs_no_input = λ e. cc;
       writes = subst (λ (o : Outcome). Delivered before after o.output) (sym outcome) (subst (λ w. Delivered before after (start_text w)) same d);
-      valid = λ _. subst IsValid same valid;
-      read_back = λ _. subst (λ w. IsReadBack w 0) same back;
+      worlds = λ _. (subst IsValid same valid, subst (λ w. IsReadBack w 0) same back);
     }
 
 pub DoesBuilt-cut : (start : Start) (world : Configuration) (before after : Account) (unwritten : Type 0) → ¬ (room_of start < need_of start) → world ≡ world_of start → IsValid world → IsReadBack world 0
@@ -48,24 +45,8 @@ DoesBuilt-cut start world before after unwritten fits same valid back p =
       agrees = ap (λ (o : Outcome). status_of o.ending) outcome;
       needs_no_input = λ e. cc;
       writes = subst (λ (o : Outcome). TookPrefix before after o.output) (sym outcome) (subst (λ w. TookPrefix before after (start_text w)) same p);
-      valid = λ _. subst IsValid same valid;
-      read_back = λ _. subst (λ w. IsReadBack w 0) same back;
+      worlds = λ _. (subst IsValid same valid, subst (λ w. IsReadBack w 0) same back);
     }
-
--- what was done for a start, over an input that was left alone
-pub DoesOver-built : (ended : Result Ending Fault) (start : Start) (bytes : List ℕ) (verdict : SetVerdict) (supply : Supply) (unread : Type 0) (before after : Account) (unwritten : Type 0)
-    → Holds supply.left bytes → unread → DoesBuilt ended start before after unwritten → DoesOver ended (Ok (Build start)) (scene supply supply unread before after unwritten)
-DoesOver-built ended start bytes verdict supply unread before after unwritten left same did = record {
-  bytes = bytes;
-  left = left;
-  taken = [];
-  verdict = verdict;
-  judged = λ begun. tt;
-  agrees = did.agrees;
-  uses = (same, did.needs_no_input);
-  writes = did.writes;
-  worlds = λ has. (did.valid has, did.read_back has);
-}
 
 -- a start whose outcome is done has room, and its outcome is its file
 build_outcome-done : (start : Start) (short : Bool) → nat_lt (room_of start) (need_of start) ≡ short

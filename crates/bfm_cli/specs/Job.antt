@@ -9,7 +9,7 @@ use Rattle.bfm_cli.specs.Words.{Key, Switch, first_wrong, is_on, number_for}
 use Rattle.bfm_cli.specs.declared.job.FileJob.{FileJob}
 use Rattle.bfm_cli.specs.declared.job.FileJob.TheVariants.{Run, Look}
 use Rattle.bfm_cli.specs.declared.job.Job.{Job}
-use Rattle.bfm_cli.specs.declared.job.Job.TheVariants.{Build, File}
+use Rattle.bfm_cli.specs.declared.job.Job.TheVariants.{Build, File, Trial}
 use Rattle.bfm_cli.specs.declared.start.Start.{Start}
 
 -- the keys of the job `run` alone
@@ -40,6 +40,13 @@ run_switches = link_switch ∷ []
 abbrev pub look_keys : List Key
 look_keys = limit_key ∷ []
 
+-- the key of the job `trial`
+abbrev pub number_key : Key
+number_key = record { name = codes "number"; least = 0; greatest = 2 ^ 64 - 1; usual = None }
+
+abbrev pub trial_keys : List Key
+trial_keys = number_key ∷ []
+
 -- a run, where each of its keys has a number; else the number of the word that is missing
 abbrev pub order_of : ℕ → Option ℕ → Option ℕ → Option ℕ → Bool → Option ℕ → Result Job ℕ
 order_of missing (Some seed) (Some frames) (Some every) linking (Some limit) =
@@ -61,6 +68,15 @@ asked_of ask missing None = Err missing
 abbrev pub look_of : Ask → List (List ℕ) → Option ℕ → Result Job ℕ
 look_of ask words (Some before) = Err (before + 2)
 look_of ask words None = asked_of ask (length words + 2) (number_for limit_key words)
+
+abbrev pub numbered : ℕ → Option ℕ → Result Job ℕ
+numbered missing (Some number) = Ok (Trial number)
+numbered missing None = Err missing
+
+-- and for a trial
+abbrev pub trial_of : List (List ℕ) → Option ℕ → Result Job ℕ
+trial_of words (Some before) = Err (before + 2)
+trial_of words None = numbered (length words + 2) (number_for number_key words)
 
 -- what the name of a job asks of a file
 abbrev pub ask_of : List ℕ → Option Ask
@@ -98,6 +114,7 @@ job_of [] = Err 1
 job_of (name ∷ words) =
     if bytes_eq name (codes "run") then run_of words (first_wrong run_keys run_switches [] words)
     else if bytes_eq name (codes "build") then build_of words
+    else if bytes_eq name (codes "trial") then trial_of words (first_wrong trial_keys [] [] words)
     else look_named (ask_of name) words
 
 -- the numbers of a job are in their ranges
@@ -108,3 +125,4 @@ IsFileJob (Look ask limit) = limit ≤ GREATEST_LIMIT
 abbrev pub IsInRange : Job → Type 0
 IsInRange (File job) = IsFileJob job
 IsInRange (Build start) = IsStart start
+IsInRange (Trial number) = Unit {0}

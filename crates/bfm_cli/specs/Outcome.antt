@@ -11,14 +11,15 @@ use Rattle.bfm_commands.specs.declared.loaded.Loaded.{Loaded}
 use Rattle.bfm_session.specs.Analysis.{Judges, answer_text}
 use Rattle.bfm_session.specs.Loading.{FileVerdict, accepted, refused, too_long, limited_verdict}
 use Rattle.bfm_session.specs.Running.{is_too_far, last_mcs, last_reach, run_done, run_text}
+use Rattle.bfm_session.specs.Trial.{trial_text}
 use Rattle.bfm_session.specs.declared.order.RunOrder.{RunOrder}
 use Rattle.bfm_session.specs.declared.running.RunDone.{RunDone}
 use Rattle.bfm_cli.specs.Job.{job_of}
-use Rattle.bfm_cli.specs.Start.{need_of, room_of, start_text, world_of}
+use Rattle.bfm_cli.specs.Start.{need_of, room_of, start_text, trial_world, world_of}
 use Rattle.bfm_cli.specs.declared.job.FileJob.{FileJob}
 use Rattle.bfm_cli.specs.declared.job.FileJob.TheVariants.{Run, Look}
 use Rattle.bfm_cli.specs.declared.job.Job.{Job}
-use Rattle.bfm_cli.specs.declared.job.Job.TheVariants.{Build, File}
+use Rattle.bfm_cli.specs.declared.job.Job.TheVariants.{Build, File, Trial}
 use Rattle.bfm_cli.specs.declared.start.Start.{Start}
 use Rattle.bfm_cli.specs.declared.ending.Ending.{Ending}
 use Rattle.bfm_cli.specs.declared.ending.RunReport.{RunReport}
@@ -65,10 +66,15 @@ build_outcome start =
     if nat_lt (room_of start) (need_of start) then nothing (NoRoom (need_of start) (room_of start))
     else record { ending = Built; output = start_text (world_of start) }
 
+-- what comes of the trial with this number
+abbrev pub trial_outcome : ℕ → Outcome
+trial_outcome number = record { ending = Answered; output = trial_text number trial_world }
+
 abbrev pub job_outcome : Result Job ℕ → List ℕ → SetVerdict → Outcome
 job_outcome (Err word) input verdict = nothing (BadWords word)
 job_outcome (Ok (File job)) input verdict = file_outcome job input verdict (limited_verdict (limit_of job) input)
 job_outcome (Ok (Build start)) input verdict = build_outcome start
+job_outcome (Ok (Trial number)) input verdict = trial_outcome number
 
 -- the outcome of words over input bytes, where this is the verdict on the file's set
 abbrev pub outcome_of : List (List ℕ) → List ℕ → SetVerdict → Outcome
@@ -88,10 +94,8 @@ JudgesFor (Run order) loaded verdict = IsVerdict loaded.world.set verdict
 JudgesFor (Look ask limit) loaded verdict = Judges ask loaded.world.set verdict
 
 abbrev pub JudgesFile : Result Job ℕ → SetVerdict → Result Loaded Refused → Type 0
-JudgesFile (Err word) verdict file = Unit {0}
-JudgesFile (Ok (Build start)) verdict file = Unit {0}
-JudgesFile (Ok (File job)) verdict (Err wrong) = Unit {0}
 JudgesFile (Ok (File job)) verdict (Ok loaded) = JudgesFor job loaded verdict
+JudgesFile job verdict file = Unit {0}
 
 abbrev pub JudgesInput : Result Job ℕ → List ℕ → SetVerdict → Type 0
 JudgesInput job input verdict = JudgesFile job verdict (verdict_of input)

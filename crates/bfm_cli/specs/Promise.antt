@@ -1,10 +1,10 @@
 -- What the program promises: what it did to its input, its output and its report.
-use Rattle.std.specs.Prelude.{◌≡◌, ◌≢◌, ℕ, ◌⊎◌, List, Option, None, Some, Result, Ok, Err}
+use Rattle.std.specs.Prelude.{◌≡◌, ◌≢◌, ℕ, Bool, false, ◌⊎◌, List, Option, None, Some, Result, Ok, Err}
 use Rattle.bfm_base.specs.Account.{Account, Delivered, TookPrefix}
 use Rattle.bfm_base.specs.Faults.{Rose}
 use Rattle.bfm_base.specs.declared.cause.Refused.{Refused}
 use Rattle.bond_set.specs.Crossing.{IsFree}
-use Rattle.bfm_world.specs.Configuration.{IsValid}
+use Rattle.bfm_world.specs.Configuration.{Configuration, IsValid}
 use Rattle.crossing_check.specs.declared.judgement.SetVerdict.{SetVerdict}
 use Rattle.bfm_commands.specs.Verdict.{verdict_of}
 use Rattle.bfm_commands.specs.declared.loaded.Loaded.{Loaded}
@@ -13,12 +13,12 @@ use Rattle.bfm_session.specs.Loading.{Supply, IsOpen, IsShown, ReadWhole, Takes,
 use Rattle.bfm_session.specs.Written.{IsReadBack}
 use Rattle.bfm_session.specs.declared.order.RunOrder.{RunOrder}
 use Rattle.bfm_cli.specs.Ending.{status_of, ended_status, ended_report}
-use Rattle.bfm_cli.specs.Outcome.{Outcome, JudgesFor, JudgesInput, accepted_outcome, build_outcome, job_outcome, limit_of}
-use Rattle.bfm_cli.specs.Start.{world_of}
+use Rattle.bfm_cli.specs.Outcome.{Outcome, JudgesFor, JudgesInput, accepted_outcome, build_outcome, job_outcome, limit_of, trial_outcome}
+use Rattle.bfm_cli.specs.Start.{trial_world, world_of}
 use Rattle.bfm_cli.specs.declared.job.FileJob.{FileJob}
 use Rattle.bfm_cli.specs.declared.job.FileJob.TheVariants.{Run, Look}
 use Rattle.bfm_cli.specs.declared.job.Job.{Job}
-use Rattle.bfm_cli.specs.declared.job.Job.TheVariants.{Build, File}
+use Rattle.bfm_cli.specs.declared.job.Job.TheVariants.{Build, File, Trial}
 use Rattle.bfm_cli.specs.declared.start.Start.{Start}
 use Rattle.bfm_cli.specs.declared.ending.Ending.{Ending}
 use Rattle.bfm_cli.specs.declared.ending.Ending.TheVariants as ends
@@ -75,12 +75,11 @@ Reads (Err faults.Read) limit taken before after = Rose before.faults after.faul
 Reads (Err faults.Write) limit taken before after = ReadWhole before after
 Reads (Err faults.Memory) limit taken before after = after.faults ≡ before.faults
 
--- What was done to the input, of which these bytes were taken. Wrong words and starts need none: they leave it as it was,
--- and no call of it fails. `unread` says that the input is as it was.
+-- What was done to the input, of which these bytes were taken. Wrong words, starts and trials need none: they leave it as
+-- it was, and no call of it fails. `unread` says that the input is as it was.
 abbrev pub Uses : Result Job ℕ → Result Ending Fault → List ℕ → Supply → Supply → Type 0 → Type 0
-Uses (Err word) ended taken before after unread = unread × (ended ≢ Err faults.Read)
-Uses (Ok (Build start)) ended taken before after unread = unread × (ended ≢ Err faults.Read)
 Uses (Ok (File job)) ended taken before after unread = Takes (limit_of job) before after taken × Reads ended (limit_of job) taken before after
+Uses job ended taken before after unread = unread × (ended ≢ Err faults.Read)
 
 -- What the job did to its output, which is to take this text. `unwritten` says that the output is as it was.
 abbrev pub Writes : Result Ending Fault → List ℕ → Account → Account → Type 0 → Type 0
@@ -96,19 +95,31 @@ Writes (Err faults.Read) text before after unwritten = unwritten
 Writes (Err faults.Write) text before after unwritten = TookPrefix before after text
 Writes (Err faults.Memory) text before after unwritten = unwritten
 
--- Each state of a run of an accepted file, between its sweeps and within them, is a valid configuration: all
--- monomers are within the walls, no two overlap, and each bond has a vector of the set.
+-- Each state of a run from this world, between its sweeps and within them, is a valid configuration: all monomers are
+-- within the walls, no two overlap, and each bond has a vector of the set.
+abbrev pub AreValidStates : Bool → ℕ → ℕ → Configuration → Type 0
+AreValidStates linking seed mcs world = (count a : ℕ) → IsValid (state_at linking seed mcs count a (begun_with world)).world
+
+-- the same of a run of an accepted file
 abbrev pub HasValidStates : RunOrder → Result Loaded Refused → Type 0
 HasValidStates order (Err wrong) = Unit {0}
-HasValidStates order (Ok loaded) =
-    (count a : ℕ) → IsValid (state_at order.linking order.seed loaded.mcs count a (begun_with loaded.world)).world
+HasValidStates order (Ok loaded) = AreValidStates order.linking order.seed loaded.mcs loaded.world
 
--- The worlds of a job are valid: each state of a run, and the world of a start, which its file gives back.
+-- of a trial
+abbrev pub IsValidTrial : ℕ → Type 0
+IsValidTrial number = AreValidStates false number 0 trial_world
+
+-- the world of a start is valid, and its file gives it back
+abbrev pub IsValidStart : Start → Type 0
+IsValidStart start = IsValid (world_of start) × IsReadBack (world_of start) 0
+
+-- The worlds of a job are valid: each state of a run or of a trial, and the world of a start.
 abbrev pub HasValidWorlds : Result Job ℕ → List ℕ → Type 0
 HasValidWorlds (Err word) bytes = Unit {0}
 HasValidWorlds (Ok (File (Run order))) bytes = HasValidStates order (verdict_of bytes)
 HasValidWorlds (Ok (File (Look ask limit))) bytes = Unit {0}
-HasValidWorlds (Ok (Build start)) bytes = IsValid (world_of start) × IsReadBack (world_of start) 0
+HasValidWorlds (Ok (Build start)) bytes = IsValidStart start
+HasValidWorlds (Ok (Trial number)) bytes = IsValidTrial number
 
 -- the set of an accepted file is free
 abbrev pub HasFreeSet : Result Loaded Refused → Type 0
@@ -120,11 +131,11 @@ abbrev pub CrossesNoBond : RunOrder → Result Loaded Refused → Type 0
 CrossesNoBond order (Err wrong) = Unit {0}
 CrossesNoBond order (Ok loaded) = NoMoveCrosses order.linking order.seed loaded.mcs loaded.world
 
+-- the same of a run, and of a trial where the usual set is free, which its world has
 abbrev pub HasNoCrossing : Result Job ℕ → List ℕ → Type 0
-HasNoCrossing (Err word) bytes = Unit {0}
 HasNoCrossing (Ok (File (Run order))) bytes = CrossesNoBond order (verdict_of bytes)
-HasNoCrossing (Ok (File (Look ask limit))) bytes = Unit {0}
-HasNoCrossing (Ok (Build start)) bytes = Unit {0}
+HasNoCrossing (Ok (Trial number)) bytes = IsFree trial_world.set → NoMoveCrosses false number 0 trial_world
+HasNoCrossing job bytes = Unit {0}
 
 -- what comes only where the output was called
 abbrev pub IsBegun : Result Ending Fault → Type 0
@@ -176,13 +187,19 @@ pub record DoesAccepted (ended : Result Ending Fault) (job : FileJob) (loaded : 
   pub of_file : IsOfFile ended
   pub writes : Writes ended (accepted_outcome job loaded kept verdict).output before after unwritten
 
--- what was done for a start; no call of the input is made
-pub record DoesBuilt (ended : Result Ending Fault) (start : Start) (before after : Account) (unwritten : Type 0) : Type 0 where
-  pub agrees : Agrees ended (build_outcome start)
+-- What was done without input, of which no call is made. `valid` says that the worlds are valid.
+pub record DoesAlone (ended : Result Ending Fault) (outcome : Outcome) (valid : Type 0) (before after : Account) (unwritten : Type 0) : Type 0 where
+  pub agrees : Agrees ended outcome
   pub needs_no_input : ended ≢ Err faults.Read
-  pub writes : Writes ended (build_outcome start).output before after unwritten
-  pub valid : HasWorld ended → IsValid (world_of start)
-  pub read_back : HasWorld ended → IsReadBack (world_of start) 0
+  pub writes : Writes ended outcome.output before after unwritten
+  pub worlds : HasWorld ended → valid
+
+-- for a start, and for the trial with this number
+abbrev pub DoesBuilt : Result Ending Fault → Start → Account → Account → Type 0 → Type 0
+DoesBuilt ended start before after unwritten = DoesAlone ended (build_outcome start) (IsValidStart start) before after unwritten
+
+abbrev pub DoesTried : Result Ending Fault → ℕ → Account → Account → Type 0 → Type 0
+DoesTried ended number before after unwritten = DoesAlone ended (trial_outcome number) (IsValidTrial number) before after unwritten
 
 -- All that was done for a job, over the bytes that the input had left, of which some were taken. Where the output was
 -- called, the verdict is one that it may tell. Its worlds are valid.
@@ -199,9 +216,8 @@ pub record DoesOver (ended : Result Ending Fault) (job : Result Job ℕ) (scene 
 
 -- a job that reads no file
 abbrev pub NeedsNoInput : Result Job ℕ → Type 0
-NeedsNoInput (Err word) = Unit {0}
 NeedsNoInput (Ok (File job)) = ⊥
-NeedsNoInput (Ok (Build start)) = Unit {0}
+NeedsNoInput job = Unit {0}
 
 -- the report was made and flushed, or a prefix of it until a call failed
 abbrev pub Reports : Result Ending Fault → Status → Account → Account → Type 0

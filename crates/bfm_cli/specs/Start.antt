@@ -1,5 +1,5 @@
 -- The starts that are built: what words ask for one, and the file that is written of it.
-use Rattle.std.specs.Prelude.{◌≡◌, ℕ, ◌*◌, ◌≤◌, Bool, false, ◌&&◌, nat_eq, nat_le, List, [], ◌∷◌, codes, Option, None, Some, if◌then◌else◌}
+use Rattle.std.specs.Prelude.{◌≡◌, ℕ, ◌*◌, ◌≤◌, Bool, true, false, ◌&&◌, nat_eq, nat_le, List, [], ◌∷◌, codes, Option, None, Some, if◌then◌else◌}
 use Rattle.bfm_base.specs.declared.limits.TheConstants.{GREATEST_SIDE, LEAST_SIDE, MOST_MONOMERS, MOST_SITES}
 use Rattle.bfm_base.specs.declared.place.Shape.{Shape}
 use Rattle.bfm_geom.specs.Difference.{IsBox, is_periodic, side_of}
@@ -137,6 +137,13 @@ abbrev pub world_of : Start → Configuration
 world_of (Melt shape chains length) = melt_world shape chains length
 world_of (Brush shape spacing length) = brush_world shape spacing length
 world_of (Network nodes strand) = network_world nodes strand
+
+-- the start of each trial, and its world: 512 chains of 32 monomers in a periodic box of side 64
+unfoldable pub trial_start : Start
+trial_start = Melt (record { sides = 64 ∷ 64 ∷ 64 ∷ []; periodic = true ∷ true ∷ true ∷ [] }) 512 32
+
+abbrev pub trial_world : Configuration
+trial_world = world_of trial_start
 
 -- the file of a start has one frame, at time 0
 abbrev pub start_text : Configuration → List ℕ

@@ -33,7 +33,7 @@ pub fn build<O: Sink>(alloc: Global, start: &Start, output: &mut O) -> Result<En
 }
 
 /// The world of a start. It is refused exactly where it needs more room than there is.
-fn world_of(alloc: Global, start: &Start) -> Result<World, BuildFault>
+pub(crate) fn world_of(alloc: Global, start: &Start) -> Result<World, BuildFault>
     requires { IsStart start.now }
     ensures no_room { room_of start.now < need_of start.now → result ≡ Err (BuildFault.NoRoom (need_of start.now) (room_of start.now)) }
     ensures room { need_of start.now ≤ room_of start.now → IfErr result (λ fault. fault ≡ BuildFault.Memory) }

@@ -1,6 +1,6 @@
 ghost use Rattle.std.specs.Prelude.{◌≡◌, ◌<◌, [], length, map, IfOk, IfSome, string_bytes};
 ghost use Rattle.bfm_cli.specs.Start.{IsStart};
-ghost use Rattle.bfm_cli.specs.Job.{ask_of, build_of, job_of, look_keys, look_of, run_keys, run_of, run_switches, started, IsInRange};
+ghost use Rattle.bfm_cli.specs.Job.{ask_of, build_of, job_of, look_keys, look_of, run_keys, run_of, run_switches, started, trial_keys, trial_of, IsInRange};
 ghost use Rattle.bfm_cli.specs.Words.{first_wrong};
 
 use crate::start::{BRUSH_KEYS, MELT_KEYS, NETWORK_KEYS, Start, brush_in, melt_in, network_in};
@@ -14,6 +14,8 @@ pub enum Job {
     /// A file is read first.
     File(FileJob),
     Build(Start),
+    /// Some sweeps of one melt, with this number as the seed.
+    Trial { number: u64 },
 }
 
 /// What is done with a file that was read.
@@ -29,6 +31,11 @@ const SEED: Key = Key {
     least: 0,
     greatest: u64::MAX,
     usual: None,
+};
+
+const NUMBER: Key = Key {
+    name: "number",
+    ..SEED
 };
 
 const FRAMES: Key = Key {
@@ -74,6 +81,8 @@ pub fn job_of(words: &[String]) -> Result<Job, u64>
         run_of(words)
     } else if name.as_str() == "build" {
         build_of(words)
+    } else if name.as_str() == "trial" {
+        trial_of(words)
     } else {
         let ask = ask_of(name.as_str()).ok_or(1u64)?;
         look_of(ask, words)
@@ -134,6 +143,19 @@ fn run_of(words: &[String]) -> Result<Job, u64>
         linking: is_on(&LINK, words),
         limit,
     })))
+}
+
+/// The trial that the words after the job's name ask for.
+fn trial_of(words: &[String]) -> Result<Job, u64>
+    ensures job { result ≡ trial_of (map string_bytes words.now) (first_wrong trial_keys [] [] (map string_bytes words.now)) }
+    ensures ranges { IfOk result IsInRange }
+{
+    if let Some(before) = first_wrong(&[NUMBER], &[], words) {
+        return Err(before + 2);
+    }
+    let missing = words.len() as u64 + 2;
+    let number = number_for(&NUMBER, words).ok_or(missing)?;
+    Ok(Job::Trial { number })
 }
 
 /// The start that the words after `build` ask for.

@@ -27,6 +27,9 @@ mod tests;
 mod tool;
 #[cfg(test)]
 mod trajectories;
+#[cfg(test)]
+mod trial_tests;
+mod trials;
 mod words;
 
 ghost use Rattle.std.specs.Prelude.{◌≡◌, ◌≢◌, ◌⊎◌, IfErr};

@@ -8,9 +8,10 @@ ghost use Rattle.crossing_check.specs.declared.judgement.SetVerdict.{SetVerdict}
 ghost use Rattle.bfm_commands.specs.Reading.{ArePlaces};
 ghost use Rattle.bfm_commands.specs.Verdict.{verdict_of};
 ghost use Rattle.bfm_session.specs.Loading.{supply};
+ghost use Rattle.bfm_session.specs.Trial.{trial_text};
 ghost use Rattle.bfm_session.specs.Written.{IsReadBack};
 ghost use Rattle.bfm_cli.specs.Job.{job_of, IsFileJob};
-ghost use Rattle.bfm_cli.specs.Start.{need_of, room_of, start_text, world_of};
+ghost use Rattle.bfm_cli.specs.Start.{need_of, room_of, start_text, trial_world, world_of};
 ghost use Rattle.bfm_cli.specs.declared.start.Start.{Start};
 ghost use Rattle.bfm_cli.specs.Ending.{report_of, status_of};
 ghost use Rattle.bfm_cli.specs.Outcome.{JudgesInput, JudgesSetOf, first_crossing, limit_of, outcome_of};
@@ -24,6 +25,7 @@ use crate::ending::{Ending, Fault, RunReport};
 use crate::job::{FileJob, Job, job_of};
 use crate::report::tell;
 use crate::status::Status;
+use crate::trials::make_trial;
 use bfm_base::{Sink, Source};
 use bfm_commands::Loaded;
 use bfm_session::{Ask, AskFault, LoadFault, RunFault, RunOrder, analyse, load, run};
@@ -81,6 +83,10 @@ pub fn run_tool<I: Source, O: Sink, P: Sink>(
         → (need_of start ≤ room_of start) × IsValid (world_of start) × Delivered (O.account output.old) (O.account output.new) (start_text (world_of start))
         × IsReadBack (world_of start) 0 }
 
+    // A trial that is done was written whole.
+    ensures tried { result ≡ Status.Done → (number : ℕ) → job_of (map string_bytes words.now) ≡ Ok (Job.Trial number)
+        → Delivered (O.account output.old) (O.account output.new) (trial_text number trial_world) }
+
     // Two verdicts on the set of one file differ in their weights alone.
     ensures one_verdict { (bytes : List ℕ) (a b : SetVerdict) → JudgesSetOf bytes a → JudgesSetOf bytes b → IfOk (verdict_of bytes) (λ _. first_crossing a ≡ first_crossing b) }
 
@@ -106,6 +112,7 @@ fn work<I: Source, O: Sink>(
     match job_of(words) {
         Ok(Job::File(job)) => do_file(alloc, &job, input, output),
         Ok(Job::Build(start)) => build(alloc, &start, output),
+        Ok(Job::Trial { number }) => make_trial(alloc, number, output),
         Err(word) => Ok(Ending::BadWords(word)),
     }
 }

@@ -38,3 +38,4 @@ pub mod ReadBackWhole
 pub mod ReadBackWorld
 mod TableLemmas
 mod TextLemmas
+mod TrialLemmas

@@ -7,4 +7,5 @@ pub mod Parts
 pub mod Pieces
 pub mod Running
 pub mod Tables
+pub mod Trial
 pub mod Written

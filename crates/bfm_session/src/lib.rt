@@ -17,6 +17,7 @@ mod loading;
 mod order;
 mod running;
 mod tables;
+mod trials;
 mod written;
 
 pub use analysis::{Ask, AskFault, analyse};
@@ -25,4 +26,5 @@ pub use lines::number_lines;
 pub use loading::{LoadFault, load};
 pub use order::RunOrder;
 pub use running::{RunDone, RunFault, run};
+pub use trials::trial;
 pub use written::write_world;

@@ -3,6 +3,7 @@ use Rattle.bfm_cli.proofs.CrossingLemmas.{free-told, uncrossed-told}
 use Rattle.bfm_cli.proofs.OutcomeLemmas.{NeedsNoInput-words, outcome-told, reads-all, unread-by, words-only, words-told}
 use Rattle.bfm_cli.proofs.PartsLemmas.{in_parts-told}
 use Rattle.bfm_cli.proofs.StartLemmas.{built-told}
+use Rattle.bfm_cli.proofs.TrialLemmas.{tried-told}
 use Rattle.bfm_cli.proofs.VerdictLemmas.{JudgesSet-one}
 use Rattle.bfm_cli.proofs.tool.run_tool.Goals as goal
 
@@ -19,6 +20,10 @@ returns-clause-unread g c needs_none = unread-by c.work-ended.result _ _ c.work-
 pub returns-clause-built : goal.returns-clause-built
 returns-clause-built g c done start job =
     built-told c.work-ended.result _ start _ c.tell.result _ _ _ job c.work-ended.ensures c.tell.ensures done
+
+pub returns-clause-tried : goal.returns-clause-tried
+returns-clause-tried g c done number job =
+    tried-told c.work-ended.result _ number _ c.tell.result _ _ _ job c.work-ended.ensures c.tell.ensures done
 
 pub returns-clause-in_parts : goal.returns-clause-in_parts
 returns-clause-in_parts g c done order job =
