@@ -1,6 +1,5 @@
 -- Places that differ by whole sides along periodic axes: the same monomers stand beside each, at the same offsets.
-use Rattle.std.proofs.Common.{◌≡◌, ◌<◌, ℕ, Bool, true, false, cond, length, nat_eq, ℤ, pos, neg_ℤ, ◌+ℤ◌, ◌-ℤ◌, ap, subst, ◌∙◌, arith}
-use Rattle.std.specs.Int.{int_rem_euclid}
+use Rattle.std.proofs.Common.{◌≡◌, ◌<◌, ℕ, Bool, true, false, cond, length, nat_eq, ℤ, pos, neg_ℤ, ◌+ℤ◌, ◌-ℤ◌, ap, arith}
 use Rattle.std.proofs.lemmas.Int.{ints}
 use Rattle.bfm_base.specs.declared.place.P3.{P3}
 use Rattle.bfm_base.specs.declared.place.Shape.{Shape}
@@ -13,14 +12,6 @@ use Rattle.bfm_world.specs.Sweeping.{IsImage, IsImageAlong}
 use Rattle.packed_engine.specs.Beside.{is_contact_offset}
 use Rattle.packed_engine.proofs.PlaceLemmas.{turns_less}
 use Rattle.packed_engine.proofs.WeightLemmas.{total-same}
-
--- a remainder of equal numbers
-pub remainder-same : (r d e s t : ℤ) → r ≡ int_rem_euclid d s → d ≡ e → s ≡ t → r ≡ int_rem_euclid e t
-remainder-same r d e s t h a b = h ∙ (ap (λ n. int_rem_euclid n s) a ∙ ap (int_rem_euclid e) b)
-
--- an image of equal numbers
-pub IsImageAlong-same : (periodic : Bool) (side : ℕ) (c d image same : ℤ) → c ≡ d → image ≡ same → IsImageAlong periodic side c image → IsImageAlong periodic side d same
-IsImageAlong-same periodic side c d image same a b h = subst (λ n. IsImageAlong periodic side n same) a (subst (IsImageAlong periodic side c) b h)
 
 -- a place and its image have the same wrapped difference to another place
 wrapped_along-image : (periodic : Bool) (side : ℕ) (c image d : ℤ) → 0 < side → IsImageAlong periodic side c image → wrapped_along periodic side (d -ℤ image) ≡ wrapped_along periodic side (d -ℤ c)

@@ -21,7 +21,7 @@ pub turns_less : (side : ℕ) (j k : ℤ) → (j +ℤ neg_ℤ k) *ℤ pos side �
 turns_less side j k = omega (arith, ints, +ℤ-*ℤ j (neg_ℤ k) (pos side), *ℤ_comm (neg_ℤ k) (pos side), *ℤ_comm k (pos side), *ℤ-neg_ℤ (pos side) k)
 
 -- between walls nothing is folded
-folded-walled : (side : ℕ) (c : ℤ) → is_within_walls_along false side c ≡ true → pos (folded side c) ≡ c
+pub folded-walled : (side : ℕ) (c : ℤ) → is_within_walls_along false side c ≡ true → pos (folded side c) ≡ c
 folded-walled side (pos c) h =
     let l : c + 2 ≤ side = leb-true (c + 2) side h in
     ap pos (folded-unique side (pos c) (pos 0) c (omega arith) (omega (arith, ints)))
@@ -49,7 +49,7 @@ same_fold-wrapped true side c d o h q e =
     let near : IsNearest side (d -ℤ c) o = subst (IsNearest side (d -ℤ c)) e (wrapped_along-is true side (d -ℤ c) (omega (arith, h))) in
     (refl, folded-unique side (c +ℤ o) (g.0 +ℤ neg_ℤ near.turns.0) (folded side d) g.1.1 (omega (arith, ints, g.1.0, near.turns.1, turns_less side g.0 near.turns.0)))
 
-and_three : (x y z : Bool) → (x && y && z) ≡ true → (x ≡ true) × (y ≡ true) × (z ≡ true)
+pub and_three : (x y z : Bool) → (x && y && z) ≡ true → (x ≡ true) × (y ≡ true) × (z ≡ true)
 and_three true true true h = (refl, refl, refl)
 and_three true true false h = cc
 and_three true false z h = cc

@@ -1,24 +1,26 @@
 -- Sums of the weights of contacts: over the monomers, and over the offsets beside a place.
-use Rattle.std.proofs.Common.{◌≡◌, ◌≢◌, ◌<◌, ◌≤◌, ◌⊎◌, inl, inr, ℕ, zero, suc, ◌+◌, ◌*◌, ◌/◌, ◌%◌, ◌∷◌, ◌++◌, [], Bool, true, false, cond, ⊎_elim, length, nat_eq, ℤ, pos, ◌+ℤ◌, ◌-ℤ◌, nat_abs, refl, sym, ap, subst, ◌∙◌, arith, add-one, Option, None, Some}
+use Rattle.std.proofs.Common.{◌≡◌, ◌≢◌, ◌<◌, ◌≤◌, ◌⊎◌, inl, inr, ℕ, zero, suc, ◌+◌, ◌*◌, ◌/◌, ◌%◌, ◌∷◌, ◌++◌, [], Bool, true, false, cond, ⊎_elim, length, nat_eq, nat_lt, ℤ, pos, ◌+ℤ◌, ◌-ℤ◌, nat_abs, refl, sym, ap, subst, ◌∙◌, arith, add-one, Option, None, Some}
 use Rattle.std.proofs.lemmas.Int.{ints}
 use Rattle.std.proofs.lemmas.Grind.{common_steps}
+use Rattle.std.proofs.lemmas.Bool.Decides.{nat_tests}
 use Rattle.std.proofs.lemmas.Bool.{cases_Bool, cases_eq, cases_lt}
 use Rattle.std.specs.Cmp.{IsEquivalence}
 use Rattle.std.specs.List.{count_by, fold, range_with_len}
 use Rattle.std.proofs.lemmas.List.{map-id}
 use Rattle.std.proofs.lemmas.List.FromFn.{map-range_with_len_more, sum_by-map-range_with_len_more}
 use Rattle.std.proofs.lemmas.List.Sums.{fold_push}
-use Rattle.bfm_base.specs.declared.limits.TheConstants.{GREATEST_CLASS}
+use Rattle.bfm_base.specs.declared.limits.TheConstants.{GREATEST_CLASS, GREATEST_THRESHOLD}
+use Rattle.bfm_base.specs.declared.place.Dir.{Dir}
 use Rattle.bfm_base.specs.declared.place.P3.{P3}
 use Rattle.bfm_base.specs.Place.{extent_of}
 use Rattle.bfm_geom.proofs.ContactLemmas.{no_contact_far}
 use Rattle.bfm_geom.proofs.DifferenceLemmas.{P3-same}
 use Rattle.bond_set.specs.BondSet.{same_vector}
 use Rattle.bond_set.proofs.PairLemmas.{same_from_same_vector, same_vector-equiv}
-use Rattle.contact_table.specs.Contacts.{IsContactTable, weight_of}
-use Rattle.bfm_world.specs.Acceptance.{contact_weight, weight_at}
-use Rattle.bfm_world.specs.Configuration.{Configuration, class_at, class_of, label_of}
-use Rattle.packed_engine.specs.Beside.{difference_to, is_contact_offset, offset_at, weight_beside, weight_with}
+use Rattle.contact_table.specs.Contacts.{IsContactTable, threshold_of, weight_of}
+use Rattle.bfm_world.specs.Acceptance.{contact_weight, delta_of, is_accepted, weight_at}
+use Rattle.bfm_world.specs.Configuration.{Configuration, class_at, class_of, label_of, position_of, target_of}
+use Rattle.packed_engine.specs.Beside.{WeighsNothing, difference_to, is_contact_offset, offset_at, weight_beside, weight_with}
 
 -- ---- sums
 -- the sum of the first n terms
@@ -150,8 +152,30 @@ contact_weight-unclassed w i p j t none =
     ap (λ a. weight_of w.table a (class_at w j)) none ∙ t.unclassed (class_at w j) (class_of-limit (label_of w j)) in
     grind (arith, common_steps, nothing)
 
-pub weight_at-unclassed : (w : Configuration) (i : ℕ) (p : P3) → IsContactTable w.table → class_at w i ≡ 0 → weight_at w i p ≡ pos 0
+weight_at-unclassed : (w : Configuration) (i : ℕ) (p : P3) → IsContactTable w.table → class_at w i ≡ 0 → weight_at w i p ≡ pos 0
 weight_at-unclassed w i p t none = total-none (contact_weight w i p) (length w.positions) (λ j l. contact_weight-unclassed w i p j t none)
+
+pub delta_of-unclassed : (w : Configuration) (i : ℕ) (dir : Dir) → IsContactTable w.table → class_at w i ≡ 0 → delta_of w i dir ≡ pos 0
+delta_of-unclassed w i dir t none =
+    omega (arith, ints, weight_at-unclassed w i (target_of w i dir) t none, weight_at-unclassed w i (position_of w i) t none)
+
+-- where no contact of any classes weighs anything
+contact_weight-nothing : (w : Configuration) (i : ℕ) (p : P3) (j : ℕ) → WeighsNothing w.table → contact_weight w i p j ≡ pos 0
+contact_weight-nothing w i p j none =
+    let nothing : weight_of w.table (class_at w i) (class_at w j) ≡ pos 0 = none (class_at w i) (class_at w j) (class_of-limit (label_of w i)) (class_of-limit (label_of w j)) in
+    grind (arith, common_steps, nothing)
+
+weight_at-nothing : (w : Configuration) (i : ℕ) (p : P3) → WeighsNothing w.table → weight_at w i p ≡ pos 0
+weight_at-nothing w i p none = total-none (contact_weight w i p) (length w.positions) (λ j l. contact_weight-nothing w i p j none)
+
+delta_of-nothing : (w : Configuration) (i : ℕ) (dir : Dir) → WeighsNothing w.table → delta_of w i dir ≡ pos 0
+delta_of-nothing w i dir none =
+    omega (arith, ints, weight_at-nothing w i (target_of w i dir) none, weight_at-nothing w i (position_of w i) none)
+
+-- and every word below the greatest threshold accepts a step
+pub is_accepted-nothing : (w : Configuration) (i : ℕ) (dir : Dir) (word : ℕ) → WeighsNothing w.table → word < GREATEST_THRESHOLD → is_accepted w i dir word ≡ true
+is_accepted-nothing w i dir word none l =
+    subst (λ d. nat_lt word (threshold_of w.table d) ≡ true) (sym (delta_of-nothing w i dir none)) (grind (arith, nat_tests, l))
 
 -- an offset is that of monomer j, or it is not
 weight_with-own : (w : Configuration) (i : ℕ) (p o : P3) (j : ℕ) → difference_to w p j ≡ o → weight_with w i p o j ≡ contact_weight w i p j

@@ -1,10 +1,12 @@
 -- The weights of contacts of a monomer, by the places beside it. Two monomers in contact differ by at most two units
 -- along each axis.
-use Rattle.std.specs.Prelude.{ℕ, ◌/◌, ◌%◌, length, ℤ, pos, ◌+ℤ◌, ◌-ℤ◌, Bool, if◌then◌else◌}
+use Rattle.std.specs.Prelude.{◌≡◌, ◌≤◌, ℕ, ◌/◌, ◌%◌, length, ℤ, pos, ◌+ℤ◌, ◌-ℤ◌, Bool, if◌then◌else◌}
 use Rattle.std.specs.List.{fold, range_with_len}
+use Rattle.bfm_base.specs.declared.limits.TheConstants.{GREATEST_CLASS}
 use Rattle.bfm_base.specs.declared.place.P3.{P3}
 use Rattle.bfm_geom.specs.Difference.{is_contact_square, minus, square_of, wrapped}
 use Rattle.bond_set.specs.BondSet.{same_vector}
+use Rattle.contact_table.specs.Contacts.{ContactTable, weight_of}
 use Rattle.bfm_world.specs.Acceptance.{contact_weight}
 use Rattle.bfm_world.specs.Configuration.{Configuration, position_of}
 
@@ -27,3 +29,7 @@ weight_with w i p o j = if same_vector (difference_to w p j) o then contact_weig
 -- what its contacts at this offset weigh together
 abbrev pub weight_beside : Configuration → ℕ → P3 → P3 → ℤ
 weight_beside w i p o = fold (λ sum j. sum +ℤ weight_with w i p o j) (pos 0) (range_with_len 0 (length w.positions))
+
+-- no contact of any two classes weighs anything
+abbrev pub WeighsNothing : ContactTable → Type 0
+WeighsNothing table = (a b : ℕ) → a ≤ GREATEST_CLASS → b ≤ GREATEST_CLASS → weight_of table a b ≡ pos 0

@@ -1,2 +1,4 @@
 pub mod Beside
+pub mod Keeping
+pub mod Spots
 pub mod Tracking

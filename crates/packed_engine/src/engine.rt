@@ -4,47 +4,64 @@ ghost use Rattle.bfm_world.specs.Acceptance.{delta_of, is_accepted, makes_move};
 ghost use Rattle.bfm_world.specs.Configuration.{is_legal, moved, reach_of};
 ghost use Rattle.bfm_world.specs.Sweeping.{CrossesNone};
 
+use crate::allowed::Allowed;
 use crate::places::{filled, has_room, owned, shift_owner, shift_sites};
-use crate::weights::weight_at;
+use crate::renewal::{all_spots, renew, renew_beside, shift_spot};
+use crate::spots::{Spots, allows, place_in};
+use crate::weights::{weigh_anything, weight_at};
 use bfm_base::limits::WORLD_REACH;
 use bfm_base::{Dir, P3, Steps};
+use bfm_geom::shifted;
 use bfm_world::{Engine, World};
 use packed_lattice::{Lattice, Owners};
 use std::alloc::{AllocError, Global};
 use std::marker::{Brand, Model};
 use std::sync::ledger::{Blank, Ledger};
 
-/// An engine that keeps, beside the world, which sites are taken and who stands at each place.
+/// An engine that keeps, beside the world, which sites are taken, who stands at each place, and for
+/// each monomer its folded place and the steps that its bonds allow.
 #[derive(Drop)]
 pub struct PackedEngine {
     world: World,
     lattice: Lattice,
     owners: Owners,
+    spots: Spots,
+    allowed: Allowed,
+    // Whether any contact weighs anything.
+    weighs: bool,
 }
 
 impl Model for PackedEngine {
     ghost use Rattle.bfm_world.specs.Configuration.{Configuration};
-    ghost use Rattle.packed_engine.specs.Tracking.{IsTracked};
+    ghost use Rattle.packed_engine.specs.Keeping.{IsKept};
 
     ghost Value = { Configuration };
 
     ghost view = { λ e. e.world };
 
-    ghost invariant = { λ e. IsTracked e.world e.lattice e.owners };
+    ghost invariant = { λ e. IsKept e.world e.lattice e.owners e.spots e.allowed e.weighs };
 }
 
 impl PackedEngine {
-    /// Takes the world as it is, or hands it back for want of memory: one bit a site, and four bytes
-    /// a place.
+    /// Takes the world as it is, or hands it back for want of memory: one bit a site, four bytes a
+    /// place, and eight bytes a monomer.
     pub fn new(alloc: Global, world: World) -> Result<PackedEngine, World>
         ensures engine { IfOk result (λ engine. engine ≡ world) }
         ensures back { IfErr result (λ back. back ≡ world) }
     {
-        match (filled(alloc, &world), owned(alloc, &world)) {
-            (Ok(lattice), Ok(owners)) => Ok(PackedEngine {
+        let allowed = Allowed::new(world.set());
+        let weighs = weigh_anything(world.table());
+        let lattice = filled(alloc, &world);
+        let owners = owned(alloc, &world);
+        let spots = all_spots(alloc, &world, &allowed);
+        match (lattice, owners, spots) {
+            (Ok(lattice), Ok(owners), Ok(spots)) => Ok(PackedEngine {
                 world,
                 lattice,
                 owners,
+                spots,
+                allowed,
+                weighs,
             }),
             _ => Err(world),
         }
@@ -88,11 +105,8 @@ impl PackedEngine {
         ensures value { result ≡ is_legal self.now monomer dir }
         ensures cost { steps.new ≤ steps.old + 4 }
     {
-        !self.world.fixed(monomer)
-            && has_room(&self.lattice, &self.world, monomer, dir, steps)
-            && self
-                .world
-                .keeps_bonds(monomer, self.world.target(monomer, dir))
+        let spot = self.spots.at(monomer);
+        allows(spot.steps, dir) && has_room(&self.lattice, &self.world, monomer, spot, dir, steps)
     }
 
     /// Whether the word accepts the step: it is below the threshold of the change of the sum of all
@@ -108,6 +122,9 @@ impl PackedEngine {
         ensures value { result ≡ is_accepted self.now monomer dir word }
         ensures cost { steps.new ≤ steps.old + 108 }
     {
+        if !self.weighs {
+            return true;
+        }
         u64::from(word)
             < self
                 .world
@@ -115,14 +132,19 @@ impl PackedEngine {
                 .threshold(self.delta(monomer, dir, steps))
     }
 
-    /// How much the step changes the sum of all weights by.
+    /// How much the step changes the sum of all weights by. A monomer without a class has no contacts that
+    /// weigh anything, so nobody looks.
     fn delta<L: Ledger>(&self, monomer: u32, dir: Dir, steps: &mut Steps<L>) -> i64
         requires { monomer < length self.now.positions }
         ensures value { result ≡ delta_of self.now monomer dir }
         ensures cost { steps.new ≤ steps.old + 108 }
     {
-        let from = self.world.position(monomer);
-        let to = self.world.target(monomer, dir);
+        prove!(monomer < self.world.len());
+        if self.world.class(monomer) == 0 {
+            return 0;
+        }
+        let from = place_in(self.spots.at(monomer));
+        let to = shifted(from, dir.step());
         let before = weight_at(&self.world, &self.owners, monomer, from, steps);
         let after = weight_at(&self.world, &self.owners, monomer, to, steps);
         after - before
@@ -136,9 +158,12 @@ impl PackedEngine {
         ensures moved { self.new ≡ moved self.old monomer dir }
         ensures uncrossed { IsFree self.old.set → CrossesNone self.old monomer dir }
     {
-        shift_sites(&mut self.lattice, &self.world, monomer, dir);
-        shift_owner(&mut self.owners, &self.world, monomer, dir);
+        let spot = self.spots.at(monomer);
+        shift_sites(&mut self.lattice, &self.world, monomer, spot, dir);
+        shift_owner(&mut self.owners, &self.world, monomer, spot, dir);
+        shift_spot(&mut self.spots, &self.world, monomer, dir);
         self.world.shift(monomer, dir);
+        renew_beside(&mut self.spots, &self.world, &self.allowed, monomer);
     }
 }
 
@@ -160,6 +185,8 @@ impl Engine for PackedEngine {
 
     fn bond(&mut self, i: u32, j: u32) {
         self.world.bond(i, j);
+        renew(&mut self.spots, &self.world, &self.allowed, i);
+        renew(&mut self.spots, &self.world, &self.allowed, j);
     }
 }
 

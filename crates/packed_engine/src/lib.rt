@@ -6,8 +6,12 @@
 //! its memory when it is made; want of it hands the world back.
 #![tactic(auto)]
 
+mod allowed;
 mod engine;
 mod places;
+mod renewal;
+mod spots;
+mod steps;
 #[cfg(test)]
 mod tests;
 mod weights;

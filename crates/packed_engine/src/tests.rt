@@ -112,6 +112,18 @@ fn paired(
     }
 }
 
+// Bonds the two monomers of an engine that have no bond yet.
+fn bond_both(rt: &impl Abort, engine: &mut PackedEngine) {
+    let world = engine.world();
+    assert!(rt; world.len() == 2);
+    let from = world.position(0);
+    assert!(rt; may_bond(&world.shape(), world.set(), from, world.position(1)));
+    assert!(rt; !world.bonded(0, 1));
+    assert!(rt; world.neighbours(0).is_empty());
+    assert!(rt; world.neighbours(1).is_empty());
+    engine.bond(0, 1);
+}
+
 // 2^40, a multiple of the side along z.
 const FAR: i64 = 1_099_511_627_776;
 
@@ -172,19 +184,70 @@ fn an_engine_knows_who_stands_where_and_keeps_bonds(rt: HostRuntime) -> Result<(
             "at {x} {y} {z}"
         );
     }
-    let world = engine.world();
-    assert_eq!(rt; world.len(), 2);
-    let from = world.position(0);
-    assert!(rt; may_bond(&world.shape(), world.set(), from, world.position(1)));
-    assert!(rt; !world.bonded(0, 1));
-    assert!(rt; world.neighbours(0).is_empty());
-    assert!(rt; world.neighbours(1).is_empty());
-    engine.bond(0, 1);
+    bond_both(&rt, &mut engine);
     assert!(rt; !attempted(&rt, &mut engine, 1, Dir::XUp, 0));
     assert!(rt; attempted(&rt, &mut engine, 1, Dir::YUp, 0));
     assert!(rt; standing(&rt, &engine, at(4, 0, 5)).is_none());
     assert!(rt; standing(&rt, &engine, at(4, 1, 5)) == Some(1));
     let world = engine.into_world();
     assert!(rt; world.len() == 2 && world.bonded(1, 0));
+    Ok(())
+}
+
+// Steps of two monomers in their order, and whether they are made. They are bonded and begin at
+// (2, 4, 5) and (5, 4, 5). The usual set has (3, 0, 0) and (3, 1, 0), but neither (4, 0, 0) nor
+// (3, 2, 0).
+#[rattlefmt::skip]
+const FOLLOWING: [(u32, Dir, bool); 9] = [
+    (1, Dir::XUp, false),
+    // A step of the neighbour allows it,
+    (0, Dir::XUp, true),
+    (1, Dir::XUp, true),
+    (1, Dir::XUp, false),
+    (1, Dir::YDown, true),
+    // and another forbids one that was allowed, here to (3, -2, 0).
+    (0, Dir::YUp, false),
+    (0, Dir::YDown, true),
+    (1, Dir::YDown, true),
+    (0, Dir::YUp, false),
+];
+
+#[test]
+fn a_step_of_a_neighbour_allows_and_forbids_steps(rt: HostRuntime) -> Result<(), Fail> {
+    let places = [at(2, 4, 5), at(5, 4, 5)];
+    let mut engine = paired(&rt, rt.alloc(), Table::new(), [0, 0], places)?;
+    bond_both(&rt, &mut engine);
+    for (monomer, dir, made) in FOLLOWING {
+        assert!(rt;
+            attempted(&rt, &mut engine, monomer, dir, 0) == made,
+            "{monomer} {dir:?}"
+        );
+    }
+    let ends = [at(3, 3, 5), at(6, 2, 5)];
+    assert!(rt; engine.world().positions() == ends.as_slice());
+    Ok(())
+}
+
+// Steps away from a bond that is made after them, and back.
+#[rattlefmt::skip]
+const APART: [(u32, Dir, Dir); 2] = [
+    (0, Dir::XDown, Dir::XUp),
+    (1, Dir::XUp, Dir::XDown),
+];
+
+#[test]
+fn a_bond_forbids_steps_of_both_its_monomers(rt: HostRuntime) -> Result<(), Fail> {
+    let places = [at(2, 4, 5), at(5, 4, 5)];
+    let mut engine = paired(&rt, rt.alloc(), Table::new(), [0, 0], places)?;
+    for (monomer, dir, back) in APART {
+        assert!(rt; attempted(&rt, &mut engine, monomer, dir, 0), "{monomer}");
+        assert!(rt; attempted(&rt, &mut engine, monomer, back, 0), "{monomer}");
+    }
+    bond_both(&rt, &mut engine);
+    for (monomer, dir, back) in APART {
+        assert!(rt; !attempted(&rt, &mut engine, monomer, dir, 0), "{monomer}");
+        assert!(rt; attempted(&rt, &mut engine, monomer, back, 0), "{monomer}");
+        assert!(rt; attempted(&rt, &mut engine, monomer, dir, 0), "{monomer}");
+    }
     Ok(())
 }

@@ -1,75 +1,38 @@
-ghost use Rattle.std.specs.Prelude.{◌≡◌, ℕ, ◌+◌, ◌*◌, ◌<◌, ◌≤◌, true, nat_abs, length, unsigned_abs, Some, IfSome};
+ghost use Rattle.std.specs.Prelude.{◌≡◌, ℕ, ◌+◌, ◌*◌, ◌<◌, ◌≤◌, true, false, nat_abs, length, unsigned_abs, Some, IfSome};
 ghost use Rattle.bfm_base.specs.Place.{extent_of};
 ghost use Rattle.bfm_base.specs.declared.limits.TheConstants.{GREATEST_WEIGHT, WORLD_REACH};
-ghost use Rattle.bfm_geom.specs.Difference.{IsBox, IsSide};
 ghost use Rattle.bfm_world.specs.Acceptance.{weight_at};
-ghost use Rattle.bfm_world.specs.Sweeping.{IsImage, IsImageAlong};
-ghost use Rattle.packed_engine.specs.Beside.{difference_to, is_contact_offset, offset_at, weight_beside};
+ghost use Rattle.packed_engine.specs.Beside.{WeighsNothing, difference_to, is_contact_offset, offset_at, weight_beside};
 ghost use Rattle.packed_engine.specs.Tracking.{AreOwned};
 
-use bfm_base::{P3, Shape, Steps};
+use bfm_base::{P3, Steps};
 use bfm_geom::shifted;
 use bfm_world::World;
+use contact_table::Table;
 use packed_lattice::Owners;
 use std::sync::ledger::Ledger;
 
 /// How many offsets there are of at most two units along each axis.
 const OFFSETS: u8 = 125;
 
-/// What the contacts of a monomer with all others weigh where it stands at a place. One without a
-/// class has none that weighs anything, so nobody looks. It counts its looks at places.
+/// How many pairs of classes there are, one of them being none.
+const CLASS_PAIRS: u16 = 256;
+
+/// Whether a contact of any two classes weighs anything.
+pub(crate) fn weigh_anything(table: &Table) -> bool
+    ensures { result ≡ false → WeighsNothing table.now }
+{
+    for k in 0..CLASS_PAIRS {
+        if table.weight((k / 16) as u8, (k % 16) as u8) != 0 {
+            return true;
+        }
+    }
+    false
+}
+
+/// What the contacts of a monomer with all others weigh where it stands at a place, by the places
+/// beside it. It counts its looks at places.
 pub(crate) fn weight_at<L: Ledger>(
-    world: &World,
-    owners: &Owners,
-    monomer: u32,
-    p: P3,
-    steps: &mut Steps<L>,
-) -> i64
-    requires monomer { monomer < length world.now.positions }
-    requires owners { AreOwned world.now (length world.now.positions) owners.now }
-    requires place { extent_of p ≤ WORLD_REACH + 1 }
-    ensures value { result ≡ weight_at world.now monomer p }
-    ensures limit { unsigned_abs result ≤ GREATEST_WEIGHT * 125 }
-    ensures cost { steps.new ≤ steps.old + 54 }
-{
-    prove!(monomer < world.len());
-    if world.class(monomer) == 0 {
-        return 0;
-    }
-    let home = image_within(&world.shape(), p);
-    weight_around(world, owners, monomer, home, steps)
-}
-
-/// The image of a place within the box along periodic axes, so that looks beside it need no
-/// division.
-fn image_within(shape: &Shape, p: P3) -> P3
-    requires shape { IsBox shape.now }
-    requires place { extent_of p ≤ WORLD_REACH + 1 }
-    ensures image { IsImage shape.now p result }
-    ensures reach { extent_of result ≤ WORLD_REACH + 1 }
-{
-    P3 {
-        x: image_along(shape.periodic[0], shape.sides[0], p.x),
-        y: image_along(shape.periodic[1], shape.sides[1], p.y),
-        z: image_along(shape.periodic[2], shape.sides[2], p.z),
-    }
-}
-
-fn image_along(periodic: bool, side: u16, c: i64) -> i64
-    requires side { IsSide side }
-    requires reach { nat_abs c ≤ WORLD_REACH + 1 }
-    ensures image { IsImageAlong periodic side c result }
-    ensures reach { nat_abs result ≤ WORLD_REACH + 1 }
-{
-    if periodic {
-        c.rem_euclid(i64::from(side))
-    } else {
-        c
-    }
-}
-
-/// The same as `weight_at`, by the places beside it.
-fn weight_around<L: Ledger>(
     world: &World,
     owners: &Owners,
     monomer: u32,

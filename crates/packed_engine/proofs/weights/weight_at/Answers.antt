@@ -1,17 +1,36 @@
-use Rattle.std.proofs.Common.{◌∙◌, arith, sym, subst}
+use Rattle.std.proofs.Common.{◌∙◌, arith, sym}
 use Rattle.std.proofs.lemmas.Int.{ints}
-use Rattle.bfm_base.specs.declared.place.Shape.{Shape}
-use Rattle.bfm_world.specs.Sweeping.{IsImage}
-use Rattle.packed_engine.proofs.BesideLemmas.{weight_at-image}
-use Rattle.packed_engine.proofs.WeightLemmas.{weight_at-unclassed}
+use Rattle.packed_engine.proofs.WeightLemmas.{contacts_among-all, contacts_among-apart, contacts_among-contact, weight_around-all, weight_around-apart, weight_around-contact}
 use Rattle.packed_engine.proofs.weights.weight_at.Goals as goal
+use Rattle.packed_engine.proofs.weights.weight_at.Goals.{then-is_contact_offset, else-is_contact_offset}
 
-pub returns-then-class-eq0-clause-value : goal.returns-then-class-eq0-clause-value
-returns-then-class-eq0-clause-value g c =
-    sym (weight_at-unclassed c.args.world.now c.args.monomer c.args.p c.len.ensures.valid.table (sym c.class.ensures.class ∙ c.if-class-eq0.true))
+pub loop-k-preserved : goal.loop-k-preserved
+loop-k-preserved g c =
+    let w = c.args.world.now in
+    let o = c.offset_at-offset.result in
+    let at = c.offset_at-offset.ensures in
+    let before = c.loop-k.invariant in
+    elim c.if-is_contact_offset.branch [
+      | then-is_contact_offset b ↦
+          let contact = sym c.is_contact_offset.ensures ∙ b.if-is_contact_offset.true in
+          let beside = b.weight_beside-sum.ensures in
+          record {
+            sum = omega (arith, ints, weight_around-contact w c.args.monomer c.args.p o c.loop-k.k at, b.sum-is, beside.value, before.sum);
+            small = omega (arith, ints, b.sum-is, beside.limit, before.small);
+            looks = omega (arith, contacts_among-contact o c.loop-k.k at contact, b.steps-is, b.tick.ensures, before.looks);
+          }
+      | else-is_contact_offset b ↦
+          let apart = sym c.is_contact_offset.ensures ∙ b.if-is_contact_offset.false in
+          record {
+            sum = omega (arith, ints, weight_around-apart w c.args.monomer c.args.p o c.loop-k.k at apart, b.sum-is, before.sum);
+            small = omega (arith, ints, b.sum-is, before.small);
+            looks = omega (arith, contacts_among-apart o c.loop-k.k at apart, b.steps-is, before.looks);
+          }
+    ]
 
 pub returns-clause-value : goal.returns-clause-value
 returns-clause-value g c =
-    let image = subst (λ (s : Shape). IsImage s c.args.p c.image_within-home.result) c.shape.ensures.shape c.image_within-home.ensures.image in
-    let around = weight_at-image c.args.world.now c.args.monomer c.args.p c.image_within-home.result c.len.ensures.valid.box.sides image in
-    omega (arith, ints, c.weight_around.ensures.value, around)
+    c.loop-k.invariant.sum ∙ weight_around-all c.args.world.now c.args.monomer c.args.p c.loop-k.k (omega arith)
+
+pub returns-clause-cost : goal.returns-clause-cost
+returns-clause-cost g c = omega (arith, contacts_among-all c.loop-k.k (omega arith), c.loop-k.invariant.looks)
