@@ -6,6 +6,7 @@ pub mod EntryLemmas
 pub mod FixedLemmas
 pub mod FormLemmas
 pub mod FrameLemmas
+pub mod HeldLemmas
 pub mod HistoryLemmas
 pub mod FramesLemmas
 pub mod LineLemmas

@@ -3,6 +3,7 @@ pub mod Causes
 pub mod Commands
 pub mod Faults
 pub mod Forms
+pub mod Held
 pub mod History
 pub mod Meaning
 pub mod Placing

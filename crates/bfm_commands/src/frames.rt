@@ -1,9 +1,10 @@
-ghost use Rattle.std.specs.Prelude.{◌≡◌, ◌+◌, ◌<◌, ◌≤◌, true, false, ◌∷◌, List, Option, None, Some, ⊤, MatchOption, IfOk, IfErr, IfSome, OnOk, length, [], is_none, option_map};
+ghost use Rattle.std.specs.Prelude.{◌≡◌, ◌+◌, ◌*◌, ◌<◌, ◌≤◌, true, false, ◌∷◌, List, Option, None, Some, ⊤, MatchOption, IfOk, IfErr, IfSome, OnOk, length, [], is_none, option_map};
 ghost use Rattle.bfm_base.specs.declared.limits.TheConstants.{GREATEST_MCS, WORLD_REACH};
 ghost use Rattle.bfm_world.specs.Draft.{with_positions};
 ghost use Rattle.bfm_world.specs.Configuration.{IsSound, IsValid, reach_of};
 ghost use Rattle.bfm_commands.specs.Causes.{frame_cause, added_cause, removed_cause};
 ghost use Rattle.bfm_commands.specs.Forms.{pair_entry};
+ghost use Rattle.bfm_commands.specs.Held.{IsFew, frames_held, pair_count};
 ghost use Rattle.bfm_commands.specs.History.{given_in, with_added, with_removed};
 ghost use Rattle.bfm_commands.specs.Reading.{IsFault, ArePlaces, AreSound, IsReady, IsChanged, KeepsFrame, TakesLine, TakesEntry, frames_fault, is_complete, standing, next_fault, loaded_by, whole_count};
 
@@ -227,6 +228,24 @@ impl Frames {
         Ok(())
     }
 
+    /// How many positions and bonded pairs are held. The builder's own positions are not counted.
+    pub fn held(&self) -> u64
+        requires { AreSound self.now }
+        ensures held { result ≡ frames_held self.now }
+        ensures few { IsFew self.now result }
+    {
+        let count = self.lines.builder.count();
+        let bonds = pair_count(self.lines.builder.bonds(), count);
+        let present = self.lines.positions.len() as u64 + bonds;
+        match &self.whole {
+            None => present,
+            Some(whole) => {
+                let places = (whole.first.len() + whole.last.len()) as u64;
+                present + places + pair_count(&whole.bonds, count)
+            }
+        }
+    }
+
     /// What a file of so many bytes gives, of whose commands so many were skipped, if a frame was
     /// whole.
     pub fn end(self, total: u64, skipped: u64) -> Option<Loaded>
@@ -248,6 +267,19 @@ impl Frames {
             skipped,
         })
     }
+}
+
+/// How many pairs of so many monomers are bonded. Each of them makes two monomers neighbours.
+fn pair_count(bonds: &Bonds, monomers: u32) -> u64
+    requires { length bonds.now ≡ monomers }
+    ensures pairs { result ≡ pair_count bonds.now }
+    ensures few { result ≤ 4 * monomers }
+{
+    let mut neighbours = 0;
+    for monomer in 0..monomers {
+        neighbours += bonds.neighbours(monomer).len() as u64;
+    }
+    neighbours / 2
 }
 
 /// A list of the same positions.

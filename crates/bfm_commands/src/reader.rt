@@ -1,8 +1,10 @@
-ghost use Rattle.std.specs.Prelude.{◌≡◌, ◌+◌, ◌≤◌, ℕ, List, [], ◌++◌, length, None, Some, IfOk, IfErr, OnOk, IfSome, Err};
-ghost use Rattle.bfm_base.specs.declared.limits.TheConstants.{GREATEST_LIMIT, GREATEST_MCS};
+ghost use Rattle.std.specs.Prelude.{◌≡◌, ◌+◌, ◌*◌, ◌≤◌, ℕ, true, List, [], ◌++◌, length, None, Some, IfOk, IfErr, OnOk, IfSome, IsSome, Err};
+ghost use Rattle.bfm_base.specs.declared.limits.TheConstants.{GREATEST_LIMIT, GREATEST_MCS, LONGEST_LINE};
 ghost use Rattle.bfm_world.specs.Configuration.{IsValid};
 ghost use Rattle.bfm_commands.specs.Reading.{StandsFor, Answers, Ends, ArePlaces};
-ghost use Rattle.bfm_commands.specs.Verdict.{verdict_of};
+ghost use Rattle.bfm_commands.specs.Held.{held_of};
+ghost use Rattle.bfm_commands.specs.History.{has_begun, draft_of};
+ghost use Rattle.bfm_commands.specs.Verdict.{history_of, verdict_of};
 
 use crate::fault::LineFault;
 use crate::loaded::Loaded;
@@ -13,7 +15,7 @@ use std::alloc::{AllocError, Global};
 use std::marker::Model;
 
 /// Reads a file that is fed in pieces of any length. It keeps no bytes of it but those of the line
-/// that has begun.
+/// that has begun, and no more than three frames: `held` says how much that is.
 #[derive(Drop)]
 pub struct Reader {
     progress: Progress,
@@ -21,15 +23,18 @@ pub struct Reader {
 }
 
 impl Model for Reader {
-    ghost use Rattle.std.specs.Prelude.{◌≡◌, ◌≤◌, None};
+    ghost use Rattle.std.specs.Prelude.{◌≡◌, ◌≤◌, None, IfSome};
     ghost use Rattle.bfm_base.specs.declared.limits.TheConstants.{GREATEST_LIMIT};
+    ghost use Rattle.bfm_commands.specs.Held.{IsEmpty};
     ghost use Rattle.bfm_commands.specs.Reading.{Standing, IsSteady};
 
     ghost Value = { Standing };
 
     ghost view = { λ r. record { progress = r.progress; stop = r.stop } };
 
-    ghost invariant = { λ r. r.stop ≡ None → IsSteady r.progress r.progress.fed × (r.progress.fed ≤ GREATEST_LIMIT) };
+    ghost invariant = { λ r.
+        (r.stop ≡ None → IsSteady r.progress r.progress.fed × (r.progress.fed ≤ GREATEST_LIMIT))
+        × IfSome r.stop (λ stop. IsEmpty r.progress.summary) };
 }
 
 impl Reader {
@@ -59,10 +64,26 @@ impl Reader {
             return Err(stop);
         }
         if let Err(stop) = self.progress.read(piece) {
+            self.progress.summary = Summary::new(self.progress.alloc);
             self.stop = Some(stop);
             return Err(stop);
         }
         Ok(())
+    }
+
+    /// How much of the file it holds: the bytes of the line that has begun, or 524,287 where it has
+    /// more, the positions of the first whole frame, of the last one and of the one that began last,
+    /// and the bonded pairs of the last whole frame and of the present place. From the first `mcs` line
+    /// on that is at most 524,287 and 11 for each monomer; after a refusal only the line is held. It
+    /// takes no memory.
+    pub fn held(&self) -> u64
+        ensures held { (bytes : List ℕ) → StandsFor self.now bytes → result ≡ held_of bytes }
+        ensures bound { (bytes : List ℕ) → StandsFor self.now bytes → has_begun (history_of bytes) ≡ true
+            → result ≤ LONGEST_LINE + 11 * (draft_of (history_of bytes)).count }
+        ensures stopped { IsSome self.now.stop → result ≤ LONGEST_LINE }
+    {
+        let line = self.progress.cutter.begun() as u64;
+        line.saturating_add(self.progress.summary.held())
     }
 
     /// What the file gives, which ends here. A file without a whole frame is refused as a line that

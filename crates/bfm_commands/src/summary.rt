@@ -1,5 +1,6 @@
-ghost use Rattle.std.specs.Prelude.{◌≡◌, ◌+◌, ◌-◌, ◌<◌, ◌≤◌, ℕ, List, [], ◌∷◌, None, Some, IfErr, OnOk, if◌then◌else◌};
+ghost use Rattle.std.specs.Prelude.{◌≡◌, ◌+◌, ◌-◌, ◌<◌, ◌≤◌, ℕ, List, [], ◌∷◌, None, Some, ⊤, MatchOption, IfErr, OnOk, if◌then◌else◌};
 ghost use Rattle.bfm_commands.specs.Causes.{meaning_cause, command_cause, entry_cause, is_cut_short};
+ghost use Rattle.bfm_commands.specs.Held.{IsEmpty, IsFew, stage_held};
 ghost use Rattle.bfm_commands.specs.History.{History, owner_of};
 ghost use Rattle.bfm_commands.specs.Meaning.{meaning_of, text_meaning, command, entry, role_of};
 ghost use Rattle.bfm_commands.specs.Reading.{IsFault, IsFit, CountsAtMost, Sums, GivesHeader, GivesFrame, whole_frames};
@@ -35,12 +36,25 @@ impl Summary {
         ensures sums { Sums result [] }
         ensures fit { IsFit result }
         ensures none { CountsAtMost 0 result }
+        ensures empty { IsEmpty result }
     {
         Summary {
             owner: Owner::Nobody,
             skipped: 0,
             header: Header::new(alloc),
             frames: None,
+        }
+    }
+
+    /// How many positions and bonded pairs are held.
+    pub fn held(&self) -> u64
+        requires { IsFit self.now }
+        ensures held { result ≡ stage_held self.now.header self.now.frames }
+        ensures few { MatchOption self.now.frames ⊤ (λ frames. IsFew frames result) }
+    {
+        match &self.frames {
+            None => self.header.pairs.list().len() as u64,
+            Some(frames) => frames.held(),
         }
     }
 
@@ -158,6 +172,7 @@ impl Summary {
             None => {
                 let builder = self.header.begin(alloc)?;
                 self.frames = Some(Frames::new(alloc, builder, mcs));
+                self.header = Header::new(alloc);
             }
         }
         Ok(())

@@ -1,3 +1,5 @@
+ghost use Rattle.std.specs.Prelude.{◌<◌, ◌≤◌, length};
+
 use crate::{Loaded, Reader};
 use bfm_base::{Cause, ReadStop, Refused};
 use std::alloc::{AllocError, Global};
@@ -371,5 +373,82 @@ fn a_file_may_have_1024_thresholds_and_no_more(rt: HostRuntime) -> Result<(), Fa
     let file = with_thresholds(rt.alloc(), 1_025)?;
     let stop = read(&rt, rt.alloc(), &file).err();
     assert!(rt; stop == refused(1_033, Cause::OutOfLimit));
+    Ok(())
+}
+
+// The first file, and so many groups behind it, of a monomer that goes to and fro.
+fn with_groups(alloc: Global, count: u64) -> Result<String, AllocError> {
+    let mut file = text_of(alloc, ONE, "!mcs=0\n3 3 3\n")?;
+    for mcs in 1..=count {
+        let x = 3 + mcs % 2;
+        file.push_str(&format!(in alloc; "\n!mcs={mcs}\n{x} 3 3\n")?)?;
+    }
+    Ok(file)
+}
+
+// The greatest line, and 11 for the one monomer.
+const MOST_HELD: u64 = 524_298;
+
+// Feeds a file in pieces of this length, and tells how many whole frames it has, where no more was
+// held behind a piece than may be.
+fn frames_in_pieces(
+    rt: &impl Abort,
+    alloc: Global,
+    bytes: &[u8],
+    step: usize,
+) -> Result<u64, ReadStop>
+    requires some { 0 < step }
+    requires short { step ≤ 30000 }
+    requires few { length bytes.now ≤ 30000 }
+{
+    let Ok(mut reader) = Reader::new(alloc) else {
+        return Err(ReadStop::Memory);
+    };
+    let mut at = 0;
+    while at < bytes.len() {
+        let end = bytes.len().min(at + step);
+        reader.feed(&bytes[at..end])?;
+        assert!(rt; reader.held() <= MOST_HELD);
+        at = end;
+    }
+    assert_eq!(rt; reader.held(), 3);
+    Ok(reader.end()?.frames)
+}
+
+#[test]
+fn past_frames_are_not_held(rt: HostRuntime) -> Result<(), Fail> {
+    let file = with_groups(rt.alloc(), 1_000)?;
+    let bytes = file.as_bytes();
+    assert!(rt; bytes.len() <= 30000);
+    for step in [1, 7, 1_001, 29_999] {
+        let frames = frames_in_pieces(&rt, rt.alloc(), bytes, step)?;
+        assert_eq!(rt; frames, 1_001, "in pieces of {step}");
+    }
+    Ok(())
+}
+
+// How much is held of a text: pairs that are listed, bytes of the last line, positions and pairs.
+#[rattlefmt::skip]
+const HELD: [(&str, &str, u64); 9] = [
+    ("", "", 0),
+    (ONE, "!mcs=", 5),
+    (TWO, "!bonds\n1 2\n2 1\n", 2),
+    (TWO, "!bonds\n1 2\n2 1\n!mcs=0\n", 1),
+    (PAIR, "0 0 0\n2 ", 3),
+    (PAIR, "0 0 0  \n", 8),
+    (PAIR, "0 0 0  \n!remove_bonds\n1 2\n!mcs=1\n0 0 0\n", 6),
+    (PAIR, "0 0 0  \n!remove_bonds\n1 2\n!mcs=1\n0 0 0\n2 0 0\n", 6),
+    (PAIR, "0 0 0  \nx\n0 0 0", 0),
+];
+
+#[test]
+fn what_is_held(rt: HostRuntime) -> Result<(), Fail> {
+    for (first, then, want) in HELD {
+        let file = text_of(rt.alloc(), first, then)?;
+        assert!(rt; file.len() <= 3000);
+        let mut reader = Reader::new(rt.alloc())?;
+        let _ = reader.feed(file.as_bytes());
+        assert_eq!(rt; reader.held(), want, "of {file:?}");
+    }
     Ok(())
 }

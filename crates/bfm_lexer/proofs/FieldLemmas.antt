@@ -1,5 +1,5 @@
 -- What a cursor finds at the start of a text is what the fields and marks of the text say.
-use Rattle.std.proofs.Common.{◌≡◌, IsTrue, not, ℕ, ◌+◌, ◌*◌, ◌^◌, min, Bool, true, false, cond, ◌&&◌, ◌||◌, nat_eq, nat_lt, List, [], ◌∷◌, length, take, drop, take_all, ◌-◌, Option, None, Some, option_map, ℤ, pos, negsuc, neg_ℤ, zero, suc, refl, sym, ap, ◌∙◌, ⊎_elim, arith}
+use Rattle.std.proofs.Common.{◌≡◌, IsTrue, not, ℕ, ◌+◌, ◌*◌, ◌^◌, min, true, false, cond, ◌&&◌, nat_eq, nat_lt, List, [], ◌∷◌, length, take, drop, take_all, ◌-◌, Option, None, Some, option_map, ℤ, pos, neg_ℤ, zero, suc, refl, sym, ap, ◌∙◌, ⊎_elim, arith}
 use Rattle.std.specs.Char.{is_ascii_digit, digit_value}
 use Rattle.std.specs.List.{list_all}
 use Rattle.std.specs.Str.Parse.{digits_value_after}
@@ -8,7 +8,7 @@ use Rattle.std.proofs.lemmas.Bool.Decides.{nat_tests}
 use Rattle.bfm_lexer.specs.Kinds.{is_blank, is_bare}
 use Rattle.bfm_lexer.specs.Numbers.{natural_of, number_of}
 use Rattle.bfm_lexer.specs.Fields.{◌>>=◌, after_blanks, up_to_blank, from_blank, split_once, behind_mark, number_field, natural_field, alone, lone_number, lone_natural, number_before, natural_before, is_mark}
-use Rattle.bfm_lexer.specs.Cursor.{digits_from, begins_with_digit, begins_with, natural_at, number_at, minus, plus, ends, mark_at, capped, capped_natural, handed, handed_natural}
+use Rattle.bfm_lexer.specs.Cursor.{digits_from, begins_with, natural_at, number_at, minus, plus, ends, mark_at, capped, capped_natural, handed, handed_natural}
 
 -- what was read, where a field ends behind it
 abbrev pub closed : {A : Type 0} → A × List ℕ → Option (A × List ℕ)

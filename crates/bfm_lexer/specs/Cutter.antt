@@ -1,5 +1,6 @@
 -- What a cutter of lines holds between two calls, and what a call does.
-use Rattle.std.specs.Prelude.{◌≡◌, ℕ, ◌<◌, ◌≤◌, true, false, List, [], ◌∷◌, ◌++◌, length, slice_range, Option, Some, None, if◌then◌else◌}
+use Rattle.std.specs.Prelude.{◌≡◌, ℕ, ◌<◌, ◌≤◌, min, true, false, List, [], ◌∷◌, ◌++◌, length, slice_range, Option, Some, None, if◌then◌else◌}
+use Rattle.bfm_base.specs.declared.limits.TheConstants.{LONGEST_LINE}
 use Rattle.bfm_lexer.specs.Lines.{finished_lines, unfinished, without_return, is_long}
 use Rattle.bfm_lexer.specs.declared.lines.Cut.{Cut}
 use Rattle.bfm_lexer.specs.declared.lines.Cut.TheVariants.{Line, Long, Used}
@@ -17,6 +18,10 @@ kept_of line = if is_long line then None else Some line
 -- these are all the bytes that the cutter has taken
 abbrev pub StandsFor : Cutter → List ℕ → Type 0
 StandsFor cutter bytes = cutter.pending ≡ kept_of (unfinished bytes)
+
+-- how many bytes the line has that has begun, or as many as a line may have where it has more
+abbrev pub begun_length : List ℕ → ℕ
+begun_length bytes = min (length (unfinished bytes)) LONGEST_LINE
 
 -- one line with its newline is taken of a piece, and no more
 pub record TakesLine (piece : List ℕ) (from to : ℕ) : Type 0 where

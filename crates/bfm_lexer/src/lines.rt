@@ -50,7 +50,7 @@ impl Model for LineCutter {
 
 impl LineCutter {
     ghost use Rattle.bfm_lexer.specs.Lines.{without_return};
-    ghost use Rattle.bfm_lexer.specs.Cutter.{StandsFor, Takes, Answers, joined, cut_of};
+    ghost use Rattle.bfm_lexer.specs.Cutter.{StandsFor, Takes, Answers, begun_length, joined, cut_of};
 
     /// A cutter that has taken no byte. It reserves the memory of the longest line.
     pub fn new(alloc: Global) -> Result<LineCutter, AllocError>
@@ -94,6 +94,18 @@ impl LineCutter {
         ensures { self.now.line ≡ Some result.now }
     {
         &self.kept
+    }
+
+    /// How many bytes the line has that has begun, or 524,287 where it has more.
+    pub fn begun(&self) -> usize
+        ensures begun { (bytes : List ℕ) → StandsFor self.now bytes → result ≡ begun_length bytes }
+        ensures limit { result ≤ LONGEST_LINE }
+    {
+        match self.stage {
+            Stage::Begun => self.kept.len(),
+            Stage::TooLong => LONGEST_LINE,
+            Stage::Finished => 0,
+        }
     }
 
     // The line that has begun goes on with these bytes.

@@ -211,8 +211,16 @@ fn takes_no_more_than_a_line(rt: HostRuntime) -> Result<(), Fail> {
     at = 2;
     assert_eq!(rt; cutter.feed(b"a\nbc\nd\n", &mut at), Cut::Line);
     assert_eq!(rt; at, 5);
+    assert_eq!(rt; cutter.begun(), 0);
     at = 7;
     assert_eq!(rt; cutter.feed(b"a\nbc\nd\n", &mut at), Cut::Used);
     assert_eq!(rt; at, 7);
+    at = 4;
+    assert_eq!(rt; cutter.feed(b"a\nbc d", &mut at), Cut::Used);
+    assert_eq!(rt; cutter.begun(), 2);
+    let line = vec![in rt.alloc(); b'a'; 524_286]?;
+    at = 0;
+    assert_eq!(rt; cutter.feed(&line, &mut at), Cut::Used);
+    assert_eq!(rt; cutter.begun(), 524_287);
     Ok(())
 }

@@ -1,4 +1,4 @@
-use Rattle.std.proofs.Common.{◌≡◌, true, option_map, cond, Some, None, drop, sym, ap, ◌∙◌}
+use Rattle.std.proofs.Common.{◌≡◌, true, cond, Some, None, drop, sym, ap, ◌∙◌}
 use Rattle.std.proofs.lemmas.List.{take_rest}
 use Rattle.bfm_lexer.specs.Cursor.{begins_with, mark_at}
 use Rattle.bfm_lexer.proofs.FieldLemmas.{behind_mark-first}

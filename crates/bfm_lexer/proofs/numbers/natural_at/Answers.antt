@@ -1,6 +1,5 @@
-use Rattle.std.proofs.Common.{◌≡◌, ◌+◌, ◌*◌, ◌^◌, min, true, false, get_or, cond, sym, ◌∙◌, arith}
-use Rattle.std.specs.Char.{is_ascii_digit, digit_value}
-use Rattle.std.proofs.lemmas.Grind.{common_steps}
+use Rattle.std.proofs.Common.{◌≡◌, ◌+◌, ◌*◌, ◌^◌, min, true, false, get_or, arith}
+use Rattle.std.specs.Char.{digit_value}
 use Rattle.bfm_lexer.specs.Cursor.{begins_with_digit}
 use Rattle.bfm_lexer.proofs.NumberLemmas.{SameDigits-step, digit_value-first, handed_natural-end, handed_natural-none}
 use Rattle.bfm_lexer.proofs.numbers.natural_at.Goals as goal

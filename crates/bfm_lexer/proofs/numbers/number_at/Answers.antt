@@ -1,4 +1,4 @@
-use Rattle.std.proofs.Common.{◌≡◌, false, true, option_map, neg_ℤ, pos, to_z, of_z, w64, ◌-ℤ◌, Some, ◌∙◌, ap, sym, rules}
+use Rattle.std.proofs.Common.{◌≡◌, false, true, option_map, neg_ℤ, pos, to_z, of_z, w64, ◌-ℤ◌, ◌∙◌, ap, sym, rules}
 use Rattle.bfm_lexer.specs.Cursor.{begins_with, minus, plus}
 use Rattle.bfm_lexer.proofs.FieldLemmas.{handed-signed, handed-unsigned}
 use Rattle.bfm_lexer.proofs.numbers.number_at.Goals as goal

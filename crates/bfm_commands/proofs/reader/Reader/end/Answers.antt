@@ -7,7 +7,7 @@ use Rattle.bfm_commands.proofs.EndLemmas.{Ends-header, Ends-frames, kept-fewer, 
 use Rattle.bfm_commands.proofs.reader.Reader.end.Goals as goal
 
 pub stop_at-missing-requires : goal.stop_at-missing-requires
-stop_at-missing-requires c = let i = c.self.invariant c.in_default.is in omega (arith, i.0.lines, i.1)
+stop_at-missing-requires c = let i = c.self.invariant.0 c.in_default.is in omega (arith, i.0.lines, i.1)
 
 pub returns-in_default-frames-clause-answer : goal.returns-in_default-frames-clause-answer
 returns-in_default-frames-clause-answer c bytes st =
