@@ -1,3 +1,5 @@
+mod CutLines
+pub mod CutRun
 pub mod GoingOnLemmas
 mod InfoLemmas
 pub mod LimitLemmas

@@ -50,7 +50,7 @@ Accepted-verdict bytes loaded e = by_wrong (first_wrong_of bytes) refl e
 
 -- The lines up to the last whole frame.
 
-last_shorter : (lines : History) → bytes_in (last_whole lines) ≤ bytes_in lines
+pub last_shorter : (lines : History) → bytes_in (last_whole lines) ≤ bytes_in lines
 last_shorter [] = omega arith
 last_shorter (line ∷ before) =
     ⊎_elim

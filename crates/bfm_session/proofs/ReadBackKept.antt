@@ -47,7 +47,7 @@ record EndsSame (lines : History) : Type 0 where
   frames : frames_of (last_whole lines) ≡ frames_of lines
   first : first_positions (last_whole lines) ≡ first_positions lines
 
-and_none : (a : Bool) → (a && false) ≡ false
+pub and_none : (a : Bool) → (a && false) ≡ false
 and_none true = refl
 and_none false = refl
 
@@ -69,7 +69,7 @@ ends_same (line ∷ before) some =
     (cases_Bool (completes line before))
 
 -- no line of a front is wrong
-first_wrong-front : (before : History) (xs ys : List (List ℕ)) → first_wrong before (xs ++ ys) ≡ None → first_wrong before xs ≡ None
+pub first_wrong-front : (before : History) (xs ys : List (List ℕ)) → first_wrong before (xs ++ ys) ≡ None → first_wrong before xs ≡ None
 first_wrong-front before [] ys e = refl
 first_wrong-front before (x ∷ xs) ys e =
     let parts = both_right (length before) (cause_of before x) (first_wrong (x ∷ before) (xs ++ ys)) e in

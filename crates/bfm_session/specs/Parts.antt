@@ -1,5 +1,6 @@
--- A run in two parts: one with some of its frames, and then one with the others, over the file that the first has written.
-use Rattle.std.specs.Prelude.{◌≡◌, ℕ, false, ◌+◌, List, length, take, Ok}
+-- A run in two parts: one with some of its frames, and then one with the others, over the file that the first has written, or
+-- over a front of it, where it was cut off.
+use Rattle.std.specs.Prelude.{◌≡◌, ℕ, false, ◌+◌, ◌-◌, ◌<◌, ◌≤◌, List, ◌++◌, length, take, Ok}
 use Rattle.bfm_commands.specs.Verdict.{verdict_of}
 use Rattle.bfm_commands.specs.declared.loaded.Loaded.{Loaded}
 use Rattle.bfm_session.specs.Running.{is_too_far, last_mcs, last_of, run_text}
@@ -35,3 +36,39 @@ pub record AreParts (loaded : Loaded) (kept : List ℕ) (first second whole : Ru
 -- in whatever two parts the frames of a run are made
 abbrev pub GoesInParts : Loaded → RunOrder → List ℕ → Type 0
 GoesInParts loaded order kept = (f g : ℕ) → f + g ≡ order.frames → AreParts loaded kept (with_frames order f) (with_frames order g) order
+
+-- a text begins with this front, at which it might be cut
+pub record BeginsWith (text front : List ℕ) : Type 0 where
+  pub rest : List ℕ
+  pub whole : text ≡ front ++ rest
+
+-- A front of a run's text has so many whole groups: it begins with the kept part and those groups, and not with one group more.
+pub record HasGroups (loaded : Loaded) (order : RunOrder) (kept front : List ℕ) (groups : ℕ) : Type 0 where
+  pub within : groups ≤ order.frames
+  pub begins : BeginsWith front (run_text loaded (with_frames order groups) kept)
+  pub no_more : groups < order.frames → BeginsWith front (run_text loaded (with_frames order (groups + 1)) kept) → ⊥
+
+-- A run that was cut off behind so many whole groups is finished by one with the missing frames over what was written: the file
+-- is accepted, and holds the world, the time and the frames of those groups, with which its kept part ends. The second run does
+-- not come too far, writes in the end what the whole run writes, and comes to the same time. The moves and links of the
+-- first groups and those of the second run are those of the whole run.
+pub record Finishes (loaded : Loaded) (order : RunOrder) (kept front : List ℕ) (groups : ℕ) : Type 0 where
+  pub next : Loaded
+  pub accepted : verdict_of front ≡ Ok next
+  pub world : next.world ≡ (last_of loaded (with_frames order groups)).world
+  pub mcs : next.mcs ≡ last_mcs loaded (with_frames order groups)
+  pub first : next.first ≡ loaded.first
+  pub frames : next.frames ≡ loaded.frames + groups
+  pub keeps : next.kept ≡ length (run_text loaded (with_frames order groups) kept)
+  pub near : is_too_far next (with_frames order (order.frames - groups)) ≡ false
+  pub same : run_text next (with_frames order (order.frames - groups)) (take next.kept front) ≡ run_text loaded order kept
+  pub time : last_mcs next (with_frames order (order.frames - groups)) ≡ last_mcs loaded order
+  pub moves : (last_of loaded (with_frames order groups)).tally.accepted + (last_of next (with_frames order (order.frames - groups))).tally.accepted ≡ (last_of loaded order).tally.accepted
+  pub links : (last_of loaded (with_frames order groups)).tally.links + (last_of next (with_frames order (order.frames - groups))).tally.links ≡ (last_of loaded order).tally.links
+
+-- At whatever byte behind the kept part the text of a run is cut, one number of whole groups is in the front, and the run goes
+-- on from it.
+abbrev pub FinishesFromEachFront : Loaded → RunOrder → List ℕ → Type 0
+FinishesFromEachFront loaded order kept =
+    (front : List ℕ) → BeginsWith front kept → BeginsWith (run_text loaded order kept) front
+    → (groups : ℕ) × HasGroups loaded order kept front groups × Finishes loaded order kept front groups × ((n : ℕ) → HasGroups loaded order kept front n → n ≡ groups)

@@ -7,7 +7,7 @@ ghost use Rattle.crosslink.specs.Log.{IsLogOf, with_pairs};
 ghost use Rattle.sweep_run.specs.Sweep.{begun_with, NoMoveCrosses};
 ghost use Rattle.bfm_commands.specs.Verdict.{verdict_of};
 ghost use Rattle.bfm_writer.specs.Text.{group_text};
-ghost use Rattle.bfm_session.specs.Parts.{GoesInParts, GoesOn};
+ghost use Rattle.bfm_session.specs.Parts.{FinishesFromEachFront, GoesInParts, GoesOn};
 ghost use Rattle.bfm_session.specs.Running.{Runs, after_frames, groups_text, run_text};
 ghost use Rattle.crossing_check.specs.declared.judgement.SetVerdict.{SetVerdict};
 
@@ -76,6 +76,11 @@ pub fn run<O: Sink>(
         → GoesOn loaded order.now (run_text loaded order.now kept.now)) }
     ensures in_parts { IfOk result (λ _. (bytes : List ℕ) → verdict_of bytes ≡ Ok loaded → kept.now ≡ take loaded.kept bytes
         → GoesInParts loaded order.now kept.now) }
+
+    // Where the output is cut at any byte behind the kept part, a run with the frames that are missing in it goes on from what is
+    // left, and writes in the end the bytes of the whole run.
+    ensures cut { IfOk result (λ _. (bytes : List ℕ) → verdict_of bytes ≡ Ok loaded → kept.now ≡ take loaded.kept bytes
+        → FinishesFromEachFront loaded order.now kept.now) }
 {
     let sweeps = order.frames * order.every;
     let mcs = u128::from(loaded.mcs) + u128::from(sweeps);

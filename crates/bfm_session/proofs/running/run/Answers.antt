@@ -8,9 +8,10 @@ use Rattle.crossing_check.specs.declared.judgement.SetVerdict.{SetVerdict}
 use Rattle.sweep_run.specs.Sweep.{begun_with}
 use Rattle.sweep_run.specs.declared.tally.Tally.{Tally}
 use Rattle.sweep_run.proofs.SweepLemmas.{NoMoveCrosses-free}
-use Rattle.bfm_session.specs.Parts.{GoesInParts, GoesOn}
+use Rattle.bfm_session.specs.Parts.{FinishesFromEachFront, GoesInParts, GoesOn}
 use Rattle.bfm_session.specs.Running.{after_frames, groups_text, is_too_far, last_mcs, run_text}
 use Rattle.bfm_session.specs.declared.running.RunDone.{RunDone}
+use Rattle.bfm_session.proofs.CutRun.{cut_run}
 use Rattle.bfm_session.proofs.PartsRun.{goes_on, in_parts}
 use Rattle.bfm_session.proofs.running.run.Goals as goal
 
@@ -45,6 +46,11 @@ pub returns-in-Ok-frames-clause-in_parts : goal.returns-in-Ok-frames-clause-in_p
 returns-in-Ok-frames-clause-in_parts g c bytes verdict part =
     let near : is_too_far c.args.loaded c.args.order.now ≡ false = grind (arith, nat_tests) in
     subst (GoesInParts c.args.loaded c.args.order.now) (sym part) (in_parts bytes c.args.loaded c.args.order.now verdict c.len.ensures.valid near)
+
+pub returns-in-Ok-frames-clause-cut : goal.returns-in-Ok-frames-clause-cut
+returns-in-Ok-frames-clause-cut g c bytes verdict part =
+    let near : is_too_far c.args.loaded c.args.order.now ≡ false = grind (arith, nat_tests) in
+    subst (FinishesFromEachFront c.args.loaded c.args.order.now) (sym part) (cut_run bytes c.args.loaded c.args.order.now verdict c.len.ensures.valid near)
 
 pub returns-in_default-new-clause-does : goal.returns-in_default-new-clause-does
 returns-in_default-new-clause-does g c =
