@@ -93,7 +93,7 @@ uncrossed-told ended job s status old new unreported d t told =
     IfSome-held s.input_before.left d.bytes _ d.left (λ free. HasNoCrossing-free job d.bytes (d.worlds (told-world ended status old new unreported t told)) free)
 
 -- what the report of a job that is done says of its verdict
-done-begun : (ending : Ending) → status_of ending ≡ statuses.Done → IsBegun (Ok ending)
+pub done-begun : (ending : Ending) → status_of ending ≡ statuses.Done → IsBegun (Ok ending)
 done-begun (ends.Ran done) e = tt
 done-begun ends.Answered e = tt
 done-begun ends.Built e = tt

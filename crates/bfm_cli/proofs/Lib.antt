@@ -1,4 +1,6 @@
 mod CrossingLemmas
+mod CutLemmas
+mod FaultLemmas
 mod InputLemmas
 mod OutcomeLemmas
 mod PartsLemmas

@@ -13,7 +13,7 @@ use Rattle.bfm_session.proofs.PartsRun.{in_parts, limited_verdict-accepted}
 use Rattle.bfm_cli.specs.Ending.{status_of}
 use Rattle.bfm_cli.specs.Outcome.{Outcome, file_outcome, nothing, run_report}
 use Rattle.bfm_cli.specs.Parts.{AreInParts, WroteAsInParts, outcome_of_run, part_of}
-use Rattle.bfm_cli.specs.Promise.{Agrees, DoesOver, HasValidStates, HasWorld, Scene, Tells, Writes}
+use Rattle.bfm_cli.specs.Promise.{Agrees, DoesOver, HasValidStates, HasWorld, Holds, Scene, Tells, Writes}
 use Rattle.bfm_cli.specs.declared.job.FileJob.TheVariants.{Run}
 use Rattle.bfm_cli.specs.declared.job.Job.{Job}
 use Rattle.bfm_cli.specs.declared.job.Job.TheVariants.{File}
@@ -26,31 +26,31 @@ use Rattle.bfm_cli.specs.declared.status.Status.TheVariants as statuses
 use Rattle.bfm_cli.proofs.OutcomeLemmas.{IfSome-held, told-done}
 
 -- what a run reports that is made, and what it comes to
-abbrev report : RunOrder → Loaded → SetVerdict → RunReport
+abbrev pub report : RunOrder → Loaded → SetVerdict → RunReport
 report order loaded verdict = run_report loaded.kept loaded.skipped order (run_done loaded order verdict)
 
-abbrev made : RunOrder → Loaded → List ℕ → SetVerdict → Outcome
+abbrev pub made : RunOrder → Loaded → List ℕ → SetVerdict → Outcome
 made order loaded input verdict = record { ending = ends.Ran (report order loaded verdict); output = run_text loaded order (take loaded.kept input) }
 
 abbrev far_or_made : Bool → RunOrder → Loaded → List ℕ → SetVerdict → Outcome
 far_or_made far order loaded input verdict = cond far (nothing (ends.TooFar (last_mcs loaded order) (last_reach loaded order))) (made order loaded input verdict)
 
 -- a run is made of an accepted file where it does not come too far
-outcome_of_run-near : (order : RunOrder) (input : List ℕ) (loaded : Loaded) (verdict : SetVerdict) → limited_verdict order.limit input ≡ accepted loaded → is_too_far loaded order ≡ false
+pub outcome_of_run-near : (order : RunOrder) (input : List ℕ) (loaded : Loaded) (verdict : SetVerdict) → limited_verdict order.limit input ≡ accepted loaded → is_too_far loaded order ≡ false
     → outcome_of_run order input verdict ≡ made order loaded input verdict
 outcome_of_run-near order input loaded verdict file near = ap (file_outcome (Run order) input verdict) file ∙ ap (λ far. far_or_made far order loaded input verdict) near
 
 -- and in no other case is it done
-record IsMade (order : RunOrder) (file : FileVerdict) : Type 0 where
-  loaded : Loaded
-  is : file ≡ accepted loaded
-  near : is_too_far loaded order ≡ false
+pub record IsMade (order : RunOrder) (file : FileVerdict) : Type 0 where
+  pub loaded : Loaded
+  pub is : file ≡ accepted loaded
+  pub near : is_too_far loaded order ≡ false
 
 near_done : (far : Bool) (order : RunOrder) (loaded : Loaded) (input : List ℕ) (verdict : SetVerdict) → status_of (far_or_made far order loaded input verdict).ending ≡ statuses.Done → far ≡ false
 near_done true order loaded input verdict done = absurd (cc)
 near_done false order loaded input verdict done = refl
 
-made_done : (order : RunOrder) (input : List ℕ) (verdict : SetVerdict) (file : FileVerdict) → status_of (file_outcome (Run order) input verdict file).ending ≡ statuses.Done → IsMade order file
+pub made_done : (order : RunOrder) (input : List ℕ) (verdict : SetVerdict) (file : FileVerdict) → status_of (file_outcome (Run order) input verdict file).ending ≡ statuses.Done → IsMade order file
 made_done order input verdict (refused wrong) done = absurd (cc)
 made_done order input verdict too_long done = absurd (cc)
 made_done order input verdict (accepted loaded) done = record { loaded = loaded; is = refl; near = near_done (is_too_far loaded order) order loaded input verdict done }
@@ -90,21 +90,39 @@ module _ (order : RunOrder) (input : List ℕ) (m : IsMade order (limited_verdic
         links = parts.links;
       }
 
--- what a run that is done has written, it would have written in two parts
-pub in_parts-told : (ended : Result Ending Fault) (job : Result Job ℕ) (order : RunOrder) (s : Scene) (status : Status) (old new : Account) (unreported : Type 0) → job ≡ Ok (File (Run order)) → DoesOver ended job s
-    → Tells ended status old new unreported → status ≡ statuses.Done → IfSome s.input_before.left (λ input. WroteAsInParts order input s.output_before s.output_after)
-in_parts-told ended job order s status old new unreported of_run does t e =
+-- what a run that is done has read and written
+pub record IsRun (order : RunOrder) (s : Scene) : Type 0 where
+  pub input : List ℕ
+  pub left : Holds s.input_before.left input
+  pub made : IsMade order (limited_verdict order.limit input)
+  pub valid : HasValidStates order (verdict_of input)
+  pub written : (verdict : SetVerdict) → Delivered s.output_before s.output_after (outcome_of_run order input verdict).output
+
+pub run-told : (ended : Result Ending Fault) (job : Result Job ℕ) (order : RunOrder) (s : Scene) (status : Status) (old new : Account) (unreported : Type 0) → job ≡ Ok (File (Run order)) → DoesOver ended job s
+    → Tells ended status old new unreported → status ≡ statuses.Done → IsRun order s
+run-told ended job order s status old new unreported of_run does t e =
     let d = subst (λ j. DoesOver ended j s) of_run does in
     let outcome = outcome_of_run order d.bytes d.verdict in
     let told = told-done ended status old new unreported t e in
     let agrees : told.0 ≡ outcome.ending = subst (λ x. Agrees x outcome) told.1 d.agrees in
     let m = made_done order d.bytes d.verdict (limited_verdict order.limit d.bytes) (ap status_of (sym agrees) ∙ told.2) in
-    let ran : ended ≡ Ok (ends.Ran (report order m.loaded d.verdict)) =
-    told.1 ∙ ap Ok (agrees ∙ ap (λ (o : Outcome). o.ending) (outcome_of_run-near order d.bytes m.loaded d.verdict m.is m.near)) in
-    let valid = d.worlds (subst HasWorld (sym ran) tt) in
+    let is = λ (c : SetVerdict). outcome_of_run-near order d.bytes m.loaded c m.is m.near in
+    let ran : ended ≡ Ok (ends.Ran (report order m.loaded d.verdict)) = told.1 ∙ ap Ok (agrees ∙ ap (λ (o : Outcome). o.ending) (is d.verdict)) in
     let written = subst (λ x. Writes x outcome.output s.output_before s.output_after s.unwritten) ran d.writes in
-    IfSome-held s.input_before.left d.bytes _ d.left
-    (λ f g limit a b c all short. (
-      AreInParts-made order d.bytes m valid f g limit a b c all short,
-      subst (Delivered s.output_before s.output_after) (sym (AreInParts-made order d.bytes m valid f g limit a b d.verdict all short).output) written,
-    ))
+    record {
+      input = d.bytes;
+      left = d.left;
+      made = m;
+      valid = d.worlds (subst HasWorld (sym ran) tt);
+      written = λ c. subst (Delivered s.output_before s.output_after) (ap (λ (o : Outcome). o.output) (is d.verdict) ∙ sym (ap (λ (o : Outcome). o.output) (is c))) written;
+    }
+
+-- what a run that is done has written, it would have written in two parts
+pub in_parts-told : (ended : Result Ending Fault) (job : Result Job ℕ) (order : RunOrder) (s : Scene) (status : Status) (old new : Account) (unreported : Type 0) → job ≡ Ok (File (Run order)) → DoesOver ended job s
+    → Tells ended status old new unreported → status ≡ statuses.Done → IfSome s.input_before.left (λ input. WroteAsInParts order input s.output_before s.output_after)
+in_parts-told ended job order s status old new unreported of_run does t e =
+    let run = run-told ended job order s status old new unreported of_run does t e in
+    IfSome-held s.input_before.left run.input _ run.left
+    (λ f g limit a b c all short.
+    let parts = AreInParts-made order run.input run.made run.valid f g limit a b c all short in
+    (parts, subst (Delivered s.output_before s.output_after) (sym parts.output) (run.written c)))

@@ -4,5 +4,6 @@ pub mod Keys
 pub mod Outcome
 pub mod Parts
 pub mod Promise
+pub mod Shortfall
 pub mod Start
 pub mod Words

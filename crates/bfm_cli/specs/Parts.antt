@@ -1,7 +1,11 @@
--- A run in two parts: one with some of its frames, and then one with the others, over the output of the first.
-use Rattle.std.specs.Prelude.{◌≡◌, ℕ, ◌+◌, ◌≤◌, List, length, Ok}
+-- A run in two parts: one with some of its frames, and then one with the others, over the output of the first, or over a front
+-- of it, where it was cut off.
+use Rattle.std.specs.Prelude.{◌≡◌, ℕ, ◌+◌, ◌-◌, ◌≤◌, List, length, take, Ok}
 use Rattle.bfm_base.specs.Account.{Account, Delivered}
 use Rattle.crossing_check.specs.declared.judgement.SetVerdict.{SetVerdict}
+use Rattle.bfm_commands.specs.Verdict.{verdict_of}
+use Rattle.bfm_commands.specs.declared.loaded.Loaded.{Loaded}
+use Rattle.bfm_session.specs.Parts.{BeginsWith, HasGroups}
 use Rattle.bfm_session.specs.declared.order.RunOrder.{RunOrder}
 use Rattle.bfm_cli.specs.Outcome.{Outcome, job_outcome}
 use Rattle.bfm_cli.specs.declared.job.FileJob.TheVariants.{Run}
@@ -39,3 +43,24 @@ WroteAsInParts order input before after =
     let first = outcome_of_run (part_of order f order.limit) input a in
     let second = outcome_of_run (part_of order g limit) first.output b in
     length first.output ≤ limit → AreInParts first second (outcome_of_run order input c) × Delivered before after second.output
+
+-- A front of what a run writes, with so many of its groups whole: that number is the only one, and the front is an accepted file
+-- with as many frames more than the input. Whatever the verdicts on the set, a run with the missing frames over the front,
+-- where its limit admits that, is the second part of the whole run, and the run of those groups its first.
+pub record IsFinished (loaded : Loaded) (order : RunOrder) (input front : List ℕ) : Type 0 where
+  pub groups : ℕ
+  pub has : HasGroups loaded order (take loaded.kept input) front groups
+  pub no_other : (n : ℕ) → HasGroups loaded order (take loaded.kept input) front n → n ≡ groups
+  pub next : Loaded
+  pub accepted : verdict_of front ≡ Ok next
+  pub frames : next.frames ≡ loaded.frames + groups
+  pub parts : (limit : ℕ) (a b c : SetVerdict) → length front ≤ limit
+      → AreInParts (outcome_of_run (part_of order groups order.limit) input a) (outcome_of_run (part_of order (order.frames - groups) limit) front b) (outcome_of_run order input c)
+
+-- Whatever the verdict on the set, the output of the run was written; and at whatever byte behind the kept part of this input it is
+-- cut, what is left of it is finished in that way, to the same bytes.
+abbrev pub WroteAsFromEachFront : RunOrder → List ℕ → Account → Account → Type 0
+WroteAsFromEachFront order input before after =
+    (loaded : Loaded) × (verdict_of input ≡ Ok loaded)
+    × ((c : SetVerdict) → let whole = (outcome_of_run order input c).output in
+    Delivered before after whole × ((front : List ℕ) → BeginsWith whole front → loaded.kept ≤ length front → IsFinished loaded order input front))

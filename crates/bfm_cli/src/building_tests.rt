@@ -30,7 +30,7 @@ const ONE_MONOMER: &str = "!mcs=0\n0 0 0\n";
 
 // (words, number of monomers, z side, which axes are periodic, what stands behind the set, the frame)
 #[rattlefmt::skip]
-const STARTS: [(&str, &str, &str, [&str; 3], &str, &str); 7] = [
+pub(crate) const STARTS: [(&str, &str, &str, [&str; 3], &str, &str); 7] = [
     ("build melt x=8 y=8 z=8 chains=16 length=4", "64", "8", ["1", "1", "1"], "", MELT_FRAME),
     ("build melt length=4 pz=0 chains=16 px=0 z=9 y=8 x=8", "64", "9", ["0", "1", "0"], "", MELT_FRAME),
     ("build melt x=8 y=8 z=8 chains=1 length=1 py=0", "1", "8", ["1", "0", "1"], "", ONE_MONOMER),
@@ -40,13 +40,23 @@ const STARTS: [(&str, &str, &str, [&str; 3], &str, &str); 7] = [
     ("build brush z=8 y=8 x=8 spacing=8 length=1", "1", "8", ["1", "1", "0"], "!bfm_fixed\n1\n", ONE_MONOMER),
 ];
 
+/// The file of a start.
+pub(crate) fn start_file(
+    alloc: Global,
+    start: &(&str, &str, &str, [&str; 3], &str, &str),
+) -> Result<String, AllocError> {
+    let entries = usual_entries(alloc)?;
+    let (_, monomers, z, [px, py, pz], marks, frame) = *start;
+    format!(in alloc;
+        "!number_of_monomers={monomers}\n!box_x=8\n!box_y=8\n!box_z={z}\n!periodic_x={px}\n!periodic_y={py}\n!periodic_z={pz}\n!set_of_bondvectors\n{entries}{marks}\n{frame}"
+    )
+}
+
 #[test]
 fn starts_are_written_whole(rt: HostRuntime) -> Result<(), Fail> {
-    let entries = usual_entries(rt.alloc())?;
-    for (words, monomers, z, [px, py, pz], marks, frame) in STARTS {
-        let file = format!(in rt.alloc();
-            "!number_of_monomers={monomers}\n!box_x=8\n!box_y=8\n!box_z={z}\n!periodic_x={px}\n!periodic_y={py}\n!periodic_z={pz}\n!set_of_bondvectors\n{entries}{marks}\n{frame}"
-        )?;
+    for start in STARTS {
+        let words = start.0;
+        let file = start_file(rt.alloc(), &start)?;
         let built = answer_over(rt.alloc(), words, b"")?;
         assert_eq!(rt; built.status, Status::Done, "{words}");
         assert!(rt; built.output.bytes() == file.as_bytes(), "{words}");
@@ -213,32 +223,6 @@ fn networks_are_turned_down(rt: HostRuntime) -> Result<(), Fail> {
 fn brushes_are_turned_down(rt: HostRuntime) -> Result<(), Fail> {
     for (words, status, report) in BRUSHES {
         is_turned_down(&rt, rt.alloc(), words, status, report)?;
-    }
-    Ok(())
-}
-
-const SMALL: &str = "build brush x=8 y=8 z=8 spacing=8 length=2";
-
-#[test]
-fn each_call_of_a_start_fails_in_turn(rt: HostRuntime) -> Result<(), Fail> {
-    let whole = answer_over(rt.alloc(), SMALL, b"")?;
-    let length = whole.output.bytes().len() as u64;
-    // Each byte is a call, and the flush is the last one.
-    for call in [1, 2, 100, 1000, length, length + 1, length + 2] {
-        let mut input = MemSource::new(rt.alloc(), b"", 1, &[1])?;
-        let mut output = MemSink::new(rt.alloc(), ROOM, 1, &[call])?;
-        let mut report = MemSink::new(rt.alloc(), 100, 1, &[])?;
-        let status = run_over(rt.alloc(), SMALL, &mut input, &mut output, &mut report)?;
-        let taken = output.bytes();
-        assert!(rt; whole.output.bytes().starts_with(taken), "call {call}");
-        if call <= length + 1 {
-            assert_eq!(rt; status, Status::WriteFault, "call {call}");
-            assert!(rt; taken.len() as u64 + 1 == call, "call {call}");
-            assert!(rt; report.bytes() == b"write\n".as_slice(), "call {call}");
-        } else {
-            assert_eq!(rt; status, Status::Done, "call {call}");
-            assert!(rt; taken.len() as u64 == length, "call {call}");
-        }
     }
     Ok(())
 }

@@ -18,13 +18,13 @@ const WORDS: &str = "run seed=42 frames=1 every=1 link=on";
 const APART: &str = "0 3 0\n0 0 0\n";
 
 /// What is written behind them where they are linked on the way: the bond forbids the second step.
-const LINKED: &str = "\n!add_bonds\n1 2\n!mcs=1\n0 3 0 B\n";
+pub(crate) const LINKED: &str = "\n!add_bonds\n1 2\n!mcs=1\n0 3 0 B\n";
 
 /// And where they are not: both steps are made.
 const BOTH: &str = "\n!mcs=1\n0 3 0\n0 1 1\n";
 
 /// A file of two monomers, each of which may be linked once.
-fn two_open(alloc: Global) -> Result<String, AllocError> {
+pub(crate) fn two_open(alloc: Global) -> Result<String, AllocError> {
     let lines = format!(in alloc; "{ALONG_Y}!bfm_valence\n1-2:1\n")?;
     file_with(alloc, "2", "8", lines.as_str(), APART)
 }

@@ -11,10 +11,18 @@ mod building;
 mod building_tests;
 #[cfg(test)]
 mod contact_tests;
+#[cfg(test)]
+mod cut_tests;
 mod ending;
+#[cfg(test)]
+mod fault_tests;
 mod job;
 #[cfg(test)]
+mod limit_tests;
+#[cfg(test)]
 mod link_tests;
+#[cfg(test)]
+mod melt_tests;
 #[cfg(test)]
 mod reading_tests;
 mod report;

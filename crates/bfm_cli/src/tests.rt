@@ -26,12 +26,12 @@ pub(crate) const ONE: &str =
     "!number_of_monomers=1\n!box_x=8\n!box_y=8\n!box_z=8\n!periodic_x=1\n!periodic_y=1\n!periodic_z=1\n!mcs=0\n3 3 3\n";
 
 /// What the first job adds to that file, and what it reports.
-const ADDED: &str = "\n!mcs=1\n3 4 3\n";
+pub(crate) const ADDED: &str = "\n!mcs=1\n3 4 3\n";
 
 const REPORT: &str = "kept 104\nframes 1\nmcs 1\nskipped 0\naccepted 1\nlinks 0\ncrossing free\n";
 
 /// The words of the first job.
-const WORDS: &str = "run seed=42 frames=1 every=1";
+pub(crate) const WORDS: &str = "run seed=42 frames=1 every=1";
 
 /// Runs the tool over memory, and answers its status.
 pub(crate) fn run_over(
@@ -254,7 +254,7 @@ fn crossed_bonds_hold_each_other(rt: HostRuntime) -> Result<(), Fail> {
 const TWELVE: &str = "2 2 0:125\n2 0 2:126\n2 0 -2:127\n2 -2 0:128\n0 2 2:129\n0 2 -2:130\n0 -2 2:131\n0 -2 -2:132\n-2 2 0:133\n-2 0 2:134\n-2 0 -2:135\n-2 -2 0:136\n";
 
 // The end of a bond steps from the first vector to the third, through a bond of the fifth.
-const SIX: &str = "2 2 0:17\n-2 -2 0:18\n2 2 1:19\n-2 -2 -1:20\n2 -2 0:21\n-2 2 0:22\n";
+pub(crate) const SIX: &str = "2 2 0:17\n-2 -2 0:18\n2 2 1:19\n-2 -2 -1:20\n2 -2 0:21\n-2 2 0:22\n";
 
 /// The first number of the line of weights, where it is at least 1.
 fn first_weight(text: &str) -> Option<u64> {
@@ -265,7 +265,7 @@ fn first_weight(text: &str) -> Option<u64> {
 
 /// The crossing lines where two bonds of the set cross in their middles. One of them is an edge of
 /// the triangle, so each of its ends has the same weight k as the ends of the other.
-fn middles(alloc: Global, crossing: &str, text: &[u8]) -> Result<String, Fail> {
+pub(crate) fn middles(alloc: Global, crossing: &str, text: &[u8]) -> Result<String, Fail> {
     let k = first_weight(str::from_utf8(text)?).unwrap_or(1);
     Ok(format!(in alloc; "crossing {crossing}\nweights {k} {k} 0 {k} {k}\n")?)
 }
@@ -299,28 +299,6 @@ fn a_check_names_the_first_crossing(rt: HostRuntime) -> Result<(), Fail> {
         let words = "run seed=1 frames=0 every=1";
         let ran = answer_to(rt.alloc(), words, file.as_bytes(), 1000)?;
         assert!(rt; ran.report.bytes() == report.as_bytes());
-    }
-    Ok(())
-}
-
-// A check of the first file writes 14 bytes, each a byte a call, and flushes.
-#[test]
-fn each_call_of_a_check_fails_in_turn(rt: HostRuntime) -> Result<(), Fail> {
-    let whole = b"crossing free\n".as_slice();
-    for call in 1..17u64 {
-        let mut input = MemSource::new(rt.alloc(), ONE.as_bytes(), 50, &[])?;
-        let mut output = MemSink::new(rt.alloc(), 200, 1, &[call])?;
-        let mut report = MemSink::new(rt.alloc(), 200, 1, &[])?;
-        let status = run_over(rt.alloc(), "check", &mut input, &mut output, &mut report)?;
-        assert!(rt; whole.starts_with(output.bytes()), "call {call}");
-        if call <= 15 {
-            assert_eq!(rt; status, Status::WriteFault, "call {call}");
-            assert_eq!(rt; output.bytes().len() as u64, call - 1);
-            assert!(rt; report.bytes() == b"write\n".as_slice(), "call {call}");
-        } else {
-            assert_eq!(rt; status, Status::Done, "call {call}");
-            assert!(rt; report.bytes().is_empty(), "call {call}");
-        }
     }
     Ok(())
 }
@@ -416,84 +394,5 @@ fn wrong_words_leave_the_input_unread(rt: HostRuntime) -> Result<(), Fail> {
         assert!(rt; input.read(&mut first) == Ok(1), "{words}");
         assert_eq!(rt; first[0], b'!', "{words}");
     }
-    Ok(())
-}
-
-// The first job reads 104 bytes and the end, writes 118 bytes and reports 67, each a byte a call.
-#[test]
-fn each_call_of_the_input_fails_in_turn(rt: HostRuntime) -> Result<(), Fail> {
-    for call in 1..107u64 {
-        let mut input = MemSource::new(rt.alloc(), ONE.as_bytes(), 1, &[call])?;
-        let mut output = MemSink::new(rt.alloc(), 200, 1, &[])?;
-        let mut report = MemSink::new(rt.alloc(), 200, 1, &[])?;
-        let status = run_over(rt.alloc(), WORDS, &mut input, &mut output, &mut report)?;
-        if call <= 105 {
-            assert_eq!(rt; status, Status::ReadFault, "call {call}");
-            assert!(rt; output.bytes().is_empty(), "call {call}");
-            assert!(rt; report.bytes() == b"read\n".as_slice(), "call {call}");
-        } else {
-            assert_eq!(rt; status, Status::Done, "call {call}");
-        }
-    }
-    Ok(())
-}
-
-#[test]
-fn each_call_of_the_output_fails_in_turn(rt: HostRuntime) -> Result<(), Fail> {
-    let whole = format!(in rt.alloc(); "{ONE}{ADDED}")?;
-    for call in 1..121u64 {
-        let mut input = MemSource::new(rt.alloc(), ONE.as_bytes(), 50, &[])?;
-        let mut output = MemSink::new(rt.alloc(), 200, 1, &[call])?;
-        let mut report = MemSink::new(rt.alloc(), 200, 1, &[])?;
-        let status = run_over(rt.alloc(), WORDS, &mut input, &mut output, &mut report)?;
-        let taken = output.bytes().len() as u64;
-        assert!(rt; whole.as_bytes().starts_with(output.bytes()), "call {call}");
-        if call <= 119 {
-            assert_eq!(rt; status, Status::WriteFault, "call {call}");
-            assert_eq!(rt; taken, call - 1);
-            assert!(rt; report.bytes() == b"write\n".as_slice(), "call {call}");
-        } else {
-            assert_eq!(rt; status, Status::Done, "call {call}");
-            assert_eq!(rt; taken, 118);
-        }
-    }
-    Ok(())
-}
-
-#[test]
-fn each_call_of_the_report_fails_in_turn(rt: HostRuntime) -> Result<(), Fail> {
-    let whole = format!(in rt.alloc(); "{ONE}{ADDED}")?;
-    for call in 1..70u64 {
-        let mut input = MemSource::new(rt.alloc(), ONE.as_bytes(), 50, &[])?;
-        let mut output = MemSink::new(rt.alloc(), 200, 64, &[])?;
-        let mut report = MemSink::new(rt.alloc(), 200, 1, &[call])?;
-        let status = run_over(rt.alloc(), WORDS, &mut input, &mut output, &mut report)?;
-        let taken = report.bytes().len() as u64;
-        assert!(rt; output.bytes() == whole.as_bytes(), "call {call}");
-        assert!(rt;
-            REPORT.as_bytes().starts_with(report.bytes()),
-            "call {call}"
-        );
-        if call <= 68 {
-            assert_eq!(rt; status, Status::ReportFault, "call {call}");
-            assert_eq!(rt; taken, call - 1);
-        } else {
-            assert_eq!(rt; status, Status::Done, "call {call}");
-            assert_eq!(rt; taken, 67);
-        }
-    }
-    Ok(())
-}
-
-#[test]
-fn an_input_that_fails_in_mid_file(rt: HostRuntime) -> Result<(), Fail> {
-    let mut input = MemSource::new(rt.alloc(), ONE.as_bytes(), 50, &[2])?;
-    let mut output = MemSink::new(rt.alloc(), 200, 200, &[])?;
-    let mut report = MemSink::new(rt.alloc(), 200, 200, &[])?;
-    let status = run_over(rt.alloc(), WORDS, &mut input, &mut output, &mut report)?;
-    assert_eq!(rt; status, Status::ReadFault);
-    assert_eq!(rt; status.code(), 5);
-    assert!(rt; output.bytes().is_empty());
-    assert!(rt; report.bytes() == b"read\n".as_slice());
     Ok(())
 }

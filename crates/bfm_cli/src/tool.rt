@@ -1,4 +1,4 @@
-ghost use Rattle.std.specs.Prelude.{◌≡◌, ◌≢◌, ◌≤◌, ◌⊎◌, ℕ, List, Result, length, map, string_bytes, IsErr, IfOk, IfSome, Ok, true};
+ghost use Rattle.std.specs.Prelude.{◌≡◌, ◌≢◌, ◌≤◌, ◌⊎◌, ℕ, List, Result, codes, length, map, string_bytes, IsErr, IfOk, IfSome, Ok, true};
 ghost use Rattle.bfm_base.specs.Account.{Delivered};
 ghost use Rattle.bfm_world.specs.Configuration.{IsValid};
 ghost use Rattle.std.specs.Io.KnownBytes.{Appends, IsAtEnd};
@@ -15,8 +15,9 @@ ghost use Rattle.bfm_cli.specs.Start.{need_of, room_of, start_text, trial_world,
 ghost use Rattle.bfm_cli.specs.declared.start.Start.{Start};
 ghost use Rattle.bfm_cli.specs.Ending.{report_of, status_of};
 ghost use Rattle.bfm_cli.specs.Outcome.{JudgesInput, JudgesSetOf, first_crossing, limit_of, outcome_of};
-ghost use Rattle.bfm_cli.specs.Parts.{WroteAsInParts};
-ghost use Rattle.bfm_cli.specs.Promise.{DoesAccepted, DoesOver, Tells, HasFreeSet, HasNoCrossing, HasValidWorlds, NeedsNoInput, scene};
+ghost use Rattle.bfm_cli.specs.Parts.{WroteAsFromEachFront, WroteAsInParts};
+ghost use Rattle.bfm_cli.specs.Promise.{DoesAccepted, DoesOver, Holds, Tells, HasFreeSet, HasNoCrossing, HasValidWorlds, NeedsNoInput, scene};
+ghost use Rattle.bfm_cli.specs.Shortfall.{CutsInput, CutsOutput, CutsReport, IsCalm, TellsFaults};
 ghost use Rattle.bfm_cli.specs.declared.ending.Ending.{Ending};
 ghost use Rattle.bfm_cli.specs.declared.ending.Fault.{Fault};
 
@@ -76,6 +77,11 @@ pub fn run_tool<I: Source, O: Sink, P: Sink>(
     ensures in_parts { result ≡ Status.Done → (order : RunOrder) → job_of (map string_bytes words.now) ≡ Ok (Job.File (FileJob.Run order))
         → IfSome (I.left input.old) (λ bytes. WroteAsInParts order bytes (O.account output.old) (O.account output.new)) }
 
+    // Where what a run wrote was cut at any byte behind the kept part, a run with the missing frames over the rest comes to the very
+    // bytes.
+    ensures cut { result ≡ Status.Done → (order : RunOrder) → job_of (map string_bytes words.now) ≡ Ok (Job.File (FileJob.Run order))
+        → IfSome (I.left input.old) (λ bytes. WroteAsFromEachFront order bytes (O.account output.old) (O.account output.new)) }
+
     // What needs no input leaves it alone, wrong words and starts. A start that is done was written whole, of a valid world for which
     // there is room, and its file gives that world back.
     ensures unread { NeedsNoInput (job_of (map string_bytes words.now)) → input.new ≡ input.old }
@@ -93,6 +99,31 @@ pub fn run_tool<I: Source, O: Sink, P: Sink>(
     // Wrong words are told as such, whatever the input holds.
     ensures bad_words { IsErr (job_of (map string_bytes words.now)) → ((result ≡ Status.BadWords) ⊎ (result ≡ Status.ReportFault))
         × (input.new ≡ input.old) × (output.new ≡ output.old) }
+
+    // Where a call failed. The input: nothing was decided before it. The output: a prefix was taken of what a job is to write
+    // that is Done. The report: a prefix of it was taken, and all stands of the status that it was to tell.
+    ensures read_fault { result ≡ Status.ReadFault → CutsInput (job_of (map string_bytes words.now))
+        (scene (supply (I.left input.old) (I.faults input.old)) (supply (I.left input.new) (I.faults input.new)) (input.new ≡ input.old)
+        (O.account output.old) (O.account output.new) (output.new ≡ output.old))
+        × Delivered (P.account report.old) (P.account report.new) (codes "read\n") }
+    ensures write_fault { result ≡ Status.WriteFault → (bytes : List ℕ) × Holds (I.left input.old) bytes × CutsOutput (job_of (map string_bytes words.now)) bytes
+        (scene (supply (I.left input.old) (I.faults input.old)) (supply (I.left input.new) (I.faults input.new)) (input.new ≡ input.old)
+        (O.account output.old) (O.account output.new) (output.new ≡ output.old))
+        × Delivered (P.account report.old) (P.account report.new) (codes "write\n") }
+    ensures report_fault { result ≡ Status.ReportFault → CutsReport (job_of (map string_bytes words.now))
+        (scene (supply (I.left input.old) (I.faults input.old)) (supply (I.left input.new) (I.faults input.new)) (input.new ≡ input.old)
+        (O.account output.old) (O.account output.new) (output.new ≡ output.old))
+        (P.account report.old) (P.account report.new) }
+
+    // No fault is passed over: Done means that no call failed, and a count that is greater than before is told.
+    ensures done_calm { result ≡ Status.Done → IsCalm
+        (scene (supply (I.left input.old) (I.faults input.old)) (supply (I.left input.new) (I.faults input.new)) (input.new ≡ input.old)
+        (O.account output.old) (O.account output.new) (output.new ≡ output.old))
+        (P.account report.old) (P.account report.new) }
+    ensures faults_told { TellsFaults result
+        (scene (supply (I.left input.old) (I.faults input.old)) (supply (I.left input.new) (I.faults input.new)) (input.new ≡ input.old)
+        (O.account output.old) (O.account output.new) (output.new ≡ output.old))
+        (P.account report.old) (P.account report.new) }
 {
     let ended = work(alloc, words, input, output);
     tell(&ended, report)
