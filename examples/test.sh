@@ -80,6 +80,15 @@ printf '\n!remove_bonds\n3 7\n' >> "$work/linking"
 ends_with "a bond that goes" 1 "taken away" \
     awk -f "$here/gel/gel.awk" chains=4 length_of=2 sites=2 warm=6 "$work/linking"
 
+# Means over blocks: the 9 is left out; 1, 3 and 2, 2 and 5, 7 have the means 2, 2 and 6, so the mean is 10/3, the variance
+# 16/3 and the error sqrt(16/9).
+printf '   # mcs     bond^2\n0 50\n1 9\n2 1\n3 3\n4 2\n5 2\n6 5\n7 7\n  # mean 1\n' > "$work/table"
+same "means over blocks" "$(awk -f "$here/blocks.awk" warm=0 blocks=3 "$work/table" | tail -n 2 | tr -s ' \n' ' ,')" \
+    " # mean 3.333, # error 1.333,"
+ends_with "blocks of another file" 1 "no table of results" awk -f "$here/blocks.awk" warm=0 "$work/small"
+ends_with "blocks without lines" 1 "do not make 5 blocks" awk -f "$here/blocks.awk" warm=3 "$work/table"
+ends_with "blocks without a warm-up" 1 "warm is to be told" awk -f "$here/blocks.awk" "$work/table"
+
 # What each example refuses, without a call of the program.
 mkdir "$work/foreign"
 echo kept > "$work/foreign/trajectory.bfm"

@@ -8,13 +8,13 @@ example=cluster
 # shellcheck source-path=SCRIPTDIR source=../common.sh
 . "$here/../common.sh"
 
-side=16     # of the box, in lattice units
-chains=32
+side=32     # of the box, in lattice units
+chains=256
 length=8    # monomers of a chain
-every=200   # sweeps between two frames
+every=500   # sweeps between two frames
 part=10     # frames of one call of the program
-warm=6000   # sweeps that do not count
-last=10000  # sweeps in all
+warm=20000  # sweeps that do not count
+last=60000  # sweeps in all
 
 # lock: one call at a time works in a folder. The lock ends with its process, however that ends.
 lock() {

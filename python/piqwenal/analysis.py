@@ -11,13 +11,15 @@ from typing import Iterable, List, Optional, Sequence, Tuple
 
 import numpy as np
 
-from .molecules import Molecules, made_whole, molecules_of
+from .header import MOST_SITES
+from .molecules import Molecules, whole_sides, made_whole, molecules_of
 from .reader import Frame
 
 __all__ = [
     "Displacements",
     "Mean",
     "block_average",
+    "bond_distribution",
     "centres_of_mass",
     "displacements",
     "displacements_over_origins",
@@ -81,22 +83,25 @@ def displacements(frames: Iterable[Frame], molecules: Optional[Molecules] = None
 
 
 def displacements_over_origins(
-    frames: Sequence[Frame], molecules: Optional[Molecules] = None
+    frames: Sequence[Frame], molecules: Optional[Molecules] = None, lags: Optional[Sequence[int]] = None
 ) -> Displacements:
     """The displacements for each distance in time, averaged over all first frames; all frames are kept.
 
-    The frames are to be equally far apart in time.
+    The frames are to be equally far apart in time. The lags are distances in frames, and all where none are given.
     """
     times = np.array([frame.mcs for frame in frames], dtype=float)
     if len(frames) == 0 or (np.diff(times, n=2) != 0).any():
         raise ValueError("the frames are none, or not equally far apart in time")
+    chosen = np.arange(len(frames)) if lags is None else np.asarray(lags, dtype=np.int64)
+    if ((chosen < 0) | (chosen >= len(frames))).any():
+        raise ValueError(f"{len(frames)} frames have lags of 0 to {len(frames) - 1}")
     if molecules is None:
         molecules = molecules_of(frames[0].bonds, len(frames[0].positions))
     places = [frame.positions for frame in frames]
     centres = [centres_of_mass(each, molecules) for each in places]
-    g1 = [_over_origins(places, lag) for lag in range(len(frames))]
-    g3 = [_over_origins(centres, lag) for lag in range(len(frames))]
-    return Displacements(times - times[0], np.array(g1), np.array(g3))
+    g1 = [_over_origins(places, lag) for lag in chosen.tolist()]
+    g3 = [_over_origins(centres, lag) for lag in chosen.tolist()]
+    return Displacements((times - times[0])[chosen], np.array(g1), np.array(g3))
 
 
 def _over_origins(places: Sequence[np.ndarray], lag: int) -> float:
@@ -136,33 +141,62 @@ def wrapped(positions: np.ndarray, box: np.ndarray, periodic: np.ndarray) -> np.
     return np.where(periodic, positions % box, positions)
 
 
+def bond_distribution(
+    positions: np.ndarray, bonds: np.ndarray, box: np.ndarray, periodic: np.ndarray
+) -> Tuple[np.ndarray, np.ndarray]:
+    """The squared lengths that bonds have, ascending, and how many bonds have each.
+
+    A bond through a periodic boundary has the length of its wrapped difference.
+    """
+    first, second = np.asarray(bonds, dtype=np.int64).reshape(-1, 2).T
+    difference = positions[second] - positions[first]
+    difference = difference - whole_sides(difference, np.where(periodic, box, 0))
+    lengths, counts = np.unique((difference**2).sum(axis=1), return_counts=True)
+    return lengths, counts
+
+
 def radial_distribution(
     positions: np.ndarray, box: np.ndarray, width: float, reach: Optional[float] = None
 ) -> Tuple[np.ndarray, np.ndarray]:
     """The middles of shells of this width, and how dense pairs are there; 1 is that of places without order.
 
-    The box is periodic along all axes. The reach is at most half of the least side, which it is where it is
-    left out. It compares all pairs, so its time grows with the square of the number of monomers. On a lattice
-    few distances occur, and narrow shells show them one by one.
+    The box is periodic along all axes, with at most 2^24 sites. The reach is at most half of the least side, which
+    it is where it is left out. The time grows with the number of sites. On a lattice few distances occur, and
+    narrow shells show them one by one.
     """
     half = box.min() / 2
     reach = half if reach is None else reach
-    if not 0 < width <= reach <= half or len(positions) < 2:
+    if not 0 < width <= reach <= half or len(positions) < 2 or np.prod(box) > MOST_SITES:
         raise ValueError(
-            "the width is above 0, the reach from there to half of the least side, monomers are two or more"
+            "the width is above 0, the reach from there to half of the least side, monomers are two or more, "
+            f"and the box has at most {MOST_SITES} sites"
         )
     shells = int(reach / width + 1e-9)
-    counts = np.zeros(shells, dtype=np.int64)
-    for index in range(len(positions) - 1):
-        difference = positions[index + 1 :] - positions[index]
-        difference = difference - box * np.round(difference / box).astype(np.int64)
-        # the least bit more, so that a distance on an edge counts to the shell above it
-        shell = (np.sqrt((difference**2).sum(axis=1)) / width + 1e-9).astype(np.int64)
-        counts += np.bincount(shell[shell < shells], minlength=shells)
+    x, y, z = (np.minimum(np.arange(side), side - np.arange(side)) ** 2 for side in box.tolist())
+    squared = x[:, None, None] + y[:, None] + z
+    # the least bit more, so that a distance on an edge counts to the shell above it
+    shell = (np.sqrt(squared) / width + 1e-9).astype(np.int64)
+    inside = shell < shells
+    ordered = _ordered_pairs(positions, box)[inside]
+    counts = np.bincount(shell[inside], weights=ordered, minlength=shells) / 2
     edges = width * np.arange(shells + 1)
     volumes = 4 / 3 * np.pi * np.diff(edges**3)
     pairs = len(positions) * (len(positions) - 1) / 2
     return (edges[1:] + edges[:-1]) / 2, counts / volumes * (float(np.prod(box)) / pairs)
+
+
+def _ordered_pairs(positions: np.ndarray, box: np.ndarray) -> np.ndarray:
+    """For each difference of two sites of a periodic box how many ordered pairs of monomers have it.
+
+    The counts are the correlation of the occupied sites with themselves, which Fourier transforms give.
+    """
+    sides = tuple(box.tolist())
+    sites = np.ravel_multi_index(tuple((positions % box).T), sides)
+    taken = np.bincount(sites, minlength=int(np.prod(box))).reshape(sides)
+    spectrum = np.abs(np.fft.rfftn(taken)) ** 2
+    counts = np.rint(np.fft.irfftn(spectrum, s=sides))
+    counts[0, 0, 0] -= len(positions)
+    return counts
 
 
 def structure_factor(positions: np.ndarray, box: np.ndarray, waves: np.ndarray) -> np.ndarray:

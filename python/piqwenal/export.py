@@ -27,9 +27,12 @@ def xyz_text(header: Header, frame: Frame, species: Optional[Mapping[int, str]] 
         f'Lattice="{x} 0 0 0 {y} 0 0 0 {z}" Properties=species:S:1:pos:R:3:label:I:1 '
         f'pbc="{flags}" mcs={frame.mcs}\n'
     )
-    rows = zip(header.labels.tolist(), frame.positions.tolist())
-    lines = [f"{names.get(label, 'X')} {place[0]} {place[1]} {place[2]} {label}\n" for label, place in rows]
-    return f"{header.monomers}\n" + first + "".join(lines)
+    labels, which = np.unique(header.labels, return_inverse=True)
+    rows = np.empty((header.monomers, 5), dtype=object)
+    rows[:, 0] = np.array([names.get(label, "X") for label in labels.tolist()], dtype=object)[which]
+    rows[:, 1:4] = frame.positions
+    rows[:, 4] = header.labels
+    return f"{header.monomers}\n" + first + _lines("%s %d %d %d %d", rows)
 
 
 def write_xyz(
@@ -66,21 +69,24 @@ def lammps_text(header: Header, frame: Frame) -> str:
     lines += [f"0 {side} {axis}lo {axis}hi" for axis, side in zip("xyz", header.box.tolist())]
     lines += ["", "Masses", ""]
     lines += [f"{index + 1} 1 # label {label}" for index, label in enumerate(labels.tolist())]
-    lines += ["", "Atoms # bond", ""]
-    lines += _atoms(header, frame, types + 1)
+    text = "\n".join([*lines, "", "Atoms # bond", "", _atoms(header, frame, types + 1)])
     if len(bonds):
-        lines += ["", "Bonds", ""]
-        lines += [f"{index + 1} 1 {i} {j}" for index, (i, j) in enumerate((bonds + 1).tolist())]
-    return "\n".join(lines) + "\n"
+        rows = np.column_stack((np.arange(1, len(bonds) + 1), bonds + 1))
+        text += "\nBonds\n\n" + _lines("%d 1 %d %d", rows)
+    return text
 
 
-def _atoms(header: Header, frame: Frame, types: np.ndarray) -> Iterable[str]:
+def _atoms(header: Header, frame: Frame, types: np.ndarray) -> str:
     folded = wrapped(frame.positions, header.box, header.periodic)
     images = (frame.positions - folded) // header.box
     molecules = molecules_of(frame.bonds, header.monomers).of + 1
     numbers = np.arange(1, header.monomers + 1)
-    columns = np.column_stack((numbers, molecules, types, folded, images))
-    return [" ".join(map(str, row)) for row in columns.tolist()]
+    return _lines("%d %d %d %d %d %d %d %d %d", np.column_stack((numbers, molecules, types, folded, images)))
+
+
+def _lines(form: str, rows: np.ndarray) -> str:
+    """A line of this form for each row."""
+    return (form + "\n") * len(rows) % tuple(rows.ravel().tolist())
 
 
 def write_lammps(header: Header, frame: Frame, target: Path, overwrite: bool = False) -> None:

@@ -90,7 +90,7 @@ def made_whole(positions: np.ndarray, bonds: np.ndarray, box: np.ndarray, period
     first, second = pairs.T
     sides = np.where(periodic, box, 0)
     whole = positions.copy()
-    moves = _whole_sides(positions[second] - positions[first], sides)
+    moves = whole_sides(positions[second] - positions[first], sides)
     if not moves.any():
         return whole
     for one, other, move in _tree(pairs, moves, len(positions)):
@@ -98,7 +98,7 @@ def made_whole(positions: np.ndarray, bonds: np.ndarray, box: np.ndarray, period
     return whole
 
 
-def _whole_sides(difference: np.ndarray, sides: np.ndarray) -> np.ndarray:
+def whole_sides(difference: np.ndarray, sides: np.ndarray) -> np.ndarray:
     """What has to be taken from a difference, so that it lies above -side/2 and at or below side/2."""
     safe = np.where(sides > 0, sides, 1)
     return -((safe - 2 * difference) // (2 * safe)) * sides

@@ -6,14 +6,16 @@ from file to file and not through this process.
 
 from __future__ import annotations
 
+import operator
 import os
 import subprocess
 import tempfile
 from contextlib import contextmanager
 from dataclasses import dataclass
-from typing import BinaryIO, Dict, Iterator, List, Optional, Tuple, Union
+from typing import BinaryIO, Dict, Iterator, List, Mapping, Optional, Tuple, Union
 
 Path = Union[str, "os.PathLike[str]"]
+Value = Union[int, str]
 
 STATUSES: Dict[int, str] = {
     2: "BadWords",
@@ -72,9 +74,12 @@ def build(
 
 
 def run(
-    source: Path, target: Path, program: Optional[Path] = None, overwrite: bool = False, **keys: int
+    source: Path, target: Path, program: Optional[Path] = None, overwrite: bool = False, **keys: Value
 ) -> Report:
-    """Goes on from the last frame of a file and writes a longer one. Keys: seed, frames, every, limit."""
+    """Goes on from the last frame of a file and writes a longer one. Keys: seed, frames, every, link, limit.
+
+    The value of link is "on" or "off", and the others are whole numbers.
+    """
     return parse_report(
         call(["run"], keys, source=source, target=target, program=program, overwrite=overwrite)
     )
@@ -82,16 +87,21 @@ def run(
 
 def info(source: Path, program: Optional[Path] = None, **keys: int) -> Dict[str, Tuple[int, ...]]:
     """What the program tells of a file, by the names of its lines."""
+    return lines_of(output_of("info", source, program, **keys))
+
+
+def output_of(job: str, source: Optional[Path] = None, program: Optional[Path] = None, **keys: int) -> str:
+    """What a job writes whose output is short, as a text."""
     with tempfile.TemporaryDirectory() as folder:
         target = os.path.join(folder, "told")
-        call(["info"], keys, source=source, target=target, program=program)
+        call([job], keys, source=source, target=target, program=program)
         with open(target, encoding="ascii") as file:
-            return _lines_of(file.read())
+            return file.read()
 
 
 def call(
     job: List[str],
-    keys: Optional[Dict[str, int]] = None,
+    keys: Optional[Mapping[str, Value]] = None,
     source: Optional[Path] = None,
     target: Optional[Path] = None,
     program: Optional[Path] = None,
@@ -102,13 +112,17 @@ def call(
     The input is empty where no source is given, and the output is dropped where no target is. Where the
     status is another one, no file is left at the target, or the one that was there before.
     """
-    words = [*job, *(f"{key}={int(value)}" for key, value in (keys or {}).items())]
+    words = [*job, *(f"{key}={_word(value)}" for key, value in (keys or {}).items())]
     command = [_program(program), *words]
     with open(os.devnull if source is None else source, "rb") as given:
         if target is None:
             return _started(command, words, given, subprocess.DEVNULL)
         with _written(target, overwrite) as output:
             return _started(command, words, given, output)
+
+
+def _word(value: Value) -> str:
+    return value if isinstance(value, str) else str(operator.index(value))
 
 
 def _program(program: Optional[Path]) -> str:
@@ -157,15 +171,15 @@ def _mask() -> int:
 
 def parse_report(text: str) -> Report:
     """The report of a run that was done."""
-    lines = _lines_of(text)
+    lines = lines_of(text)
     names = ("kept", "frames", "mcs", "skipped", "accepted", "links")
     missing = [name for name in names if len(lines.get(name, ())) != 1]
     if missing or "crossing" not in lines:
         raise ValueError(f"this is no report of a run: {text[:200]!r}")
-    return Report(**{name: lines[name][0] for name in names}, crossing=_crossing(lines))
+    return Report(**{name: lines[name][0] for name in names}, crossing=crossing_of(lines))
 
 
-def _crossing(lines: Dict[str, Tuple[int, ...]]) -> Optional[Crossing]:
+def crossing_of(lines: Dict[str, Tuple[int, ...]]) -> Optional[Crossing]:
     move, weights = lines["crossing"], lines.get("weights", ())
     if not move:
         return None
@@ -175,7 +189,7 @@ def _crossing(lines: Dict[str, Tuple[int, ...]]) -> Optional[Crossing]:
     return Crossing(parts[0], parts[1], parts[2], parts[3], weights)  # type: ignore[arg-type]
 
 
-def _lines_of(text: str) -> Dict[str, Tuple[int, ...]]:
+def lines_of(text: str) -> Dict[str, Tuple[int, ...]]:
     """Lines of a name and numbers. The line `crossing free` has no numbers."""
     lines: Dict[str, Tuple[int, ...]] = {}
     for line in text.splitlines():

@@ -1,11 +1,14 @@
 """Figures of small worlds, worked by hand."""
 
+import itertools
+
 import numpy as np
 import pytest
 
 from conftest import SET, header, read
 from piqwenal import (
     block_average,
+    bond_distribution,
     centres_of_mass,
     displacements,
     displacements_over_origins,
@@ -91,6 +94,16 @@ def test_origins_ask_for_equal_distances():
         displacements_over_origins(frames)
 
 
+def test_some_lags_are_those_of_all():
+    _, frames = read(header(1) + "".join(f"!mcs={10 * t}\n{t * t} 0 0\n" for t in range(5)))
+    every, some = displacements_over_origins(frames), displacements_over_origins(frames, lags=[3, 1])
+    assert some.times.tolist() == [30, 10]
+    assert some.g1.tolist() == some.g3.tolist() == every.g1[[3, 1]].tolist()
+    for lag in (-1, 5):
+        with pytest.raises(ValueError):
+            displacements_over_origins(frames, lags=[lag])
+
+
 def test_block_averages():
     # the 9 is left out; blocks 1, 3 and 2, 2 and 5, 7 have the means 2, 2, 6: mean 10/3,
     # variance (16/9 + 16/9 + 64/9) / 2 = 16/3, error sqrt(16/9) = 4/3
@@ -134,9 +147,32 @@ def test_radial_distribution_of_two():
 
 
 def test_radial_distribution_of_places_without_order_is_near_1():
-    places = np.random.default_rng(3).integers(0, 512, (1500, 3))
-    _, density = radial_distribution(places, np.array([512, 512, 512]), width=64)
+    places = np.random.default_rng(3).integers(0, 128, (1500, 3))
+    _, density = radial_distribution(places, np.array([128, 128, 128]), width=16)
     assert density[1:] == pytest.approx(1, abs=0.05)
+
+
+def test_radial_distribution_counts_all_pairs():
+    places = np.random.default_rng(4).integers(-40, 40, (60, 3))
+    box = np.array([9, 12, 16])
+    middles, density = radial_distribution(places, box, width=0.5, reach=4.5)
+    counts = np.zeros(9)
+    for one, other in itertools.combinations(places, 2):
+        away = np.abs(one - other) % box
+        distance = np.sqrt((np.minimum(away, box - away) ** 2).sum())
+        if distance < 4.5:
+            counts[int(distance / 0.5)] += 1
+    shares = density * 4 / 3 * np.pi * np.diff((0.5 * np.arange(10)) ** 3)
+    assert counts.sum() > 0
+    assert shares == pytest.approx(counts * np.prod(box) / (60 * 59 / 2))
+
+
+def test_bonds_by_their_squared_lengths():
+    _, (frame,) = read(header(4, more=SET + "!bonds\n1 2\n2 3\n3 4\n") + "!mcs=0\n1 0 0\n15 0 0\n13 0 16\n12 2 0\n")
+    lengths, counts = bond_distribution(frame.positions, frame.bonds, BOX, ALL)
+    assert (lengths.tolist(), counts.tolist()) == ([4, 5], [2, 1])
+    lengths, counts = bond_distribution(frame.positions, frame.bonds[:0], BOX, ALL)
+    assert (lengths.tolist(), counts.tolist()) == ([], [])
 
 
 def test_radial_distribution_refuses_a_reach_beyond_half_a_side():

@@ -36,6 +36,16 @@ def test_a_run_goes_from_file_to_file(tmp_path, program):
     assert (report.skipped, report.accepted, report.links, report.crossing) == (3, 4, 0, None)
 
 
+def test_the_state_of_a_switch_is_a_word(tmp_path, program):
+    program(report=REPORT)
+    (tmp_path / "old").write_text("input\n")
+    run(tmp_path / "old", tmp_path / "new", seed=42, frames=1, every=2, link="on")
+    assert (tmp_path / "new").read_text() == "run seed=42 frames=1 every=2 link=on|input\n"
+    with pytest.raises(TypeError):
+        run(tmp_path / "old", tmp_path / "newer", seed=42, frames=1.5, every=2)
+    assert not (tmp_path / "newer").exists()
+
+
 def test_a_start_is_built(tmp_path, program):
     program()
     build("melt", tmp_path / "start", x=16, chains=2)
